@@ -1,4 +1,4 @@
--- Where nothing outside fails, a drive does all events; unless memory runs out, or a receipt differs from the log.
+-- Where nothing outside fails, a drive does all events, unless memory runs out.
 use Rattle.std.proofs.Common.{◌≡◌, ◌≤◌, ◌<◌, ◌+◌, inl, inr, ℕ, suc, true, false, Option, Some, List, [], ◌++◌, refl, sym, ap, subst, ◌∙◌, arith}
 use Rattle.tp_outside.specs.Faults.{HasRisen}
 use Rattle.tp_outside.specs.Story.{Story, seen}
@@ -93,4 +93,4 @@ module _ (d : Drive) (r : Ran) (p : IsProvided d r) where
   completes same (Status.WriteFault faults) ro rn wo wn old new some does ends a b c = absurd (b ends.risen)
   completes same (Status.DiskFault faults) ro rn wo wn old new some does ends a b c = absurd (c ends)
   completes same Status.NoMemory ro rn wo wn old new some does ends a b c = tt
-  completes same (Status.LogDiffers place receipt kept) ro rn wo wn old new some does ends a b c = tt
+  completes same (Status.LogDiffers place receipt kept) ro rn wo wn old new some does ends a b c = absurd does

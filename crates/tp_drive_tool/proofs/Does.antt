@@ -97,7 +97,7 @@ module _ (d : Drive) (r : Ran) (same : Type 0) (events : List Given) (read : (by
   part_done old new (Status.WriteFault faults) cause stopped = absurd cause
   part_done old new (Status.DiskFault faults) cause stopped = part_of_it (Status.DiskFault faults) stopped
   part_done old new Status.NoMemory cause stopped = inr (inl (part_of_it Status.NoMemory stopped))
-  part_done old new (Status.LogDiffers place receipt kept) cause stopped = part_of_it (Status.LogDiffers place receipt kept) stopped
+  part_done old new (Status.LogDiffers place receipt kept) cause stopped = absurd cause
 
 -- what was written has its end from the sink alone
 pub all_ending : (bytes : List ℕ) (written output : Option (List ℕ)) (n read now old new disk left : ℕ) (status : Status) → Writes bytes written output status → IsEnding n n old new n n status → IsEnding read now old new disk left status
@@ -110,7 +110,7 @@ all_ending bytes written output n read now old new disk left (Status.ReadFault f
 all_ending bytes written output n read now old new disk left (Status.WriteFault faults) wrote ends = ends
 all_ending bytes written output n read now old new disk left (Status.DiskFault faults) wrote ends = absurd wrote
 all_ending bytes written output n read now old new disk left Status.NoMemory wrote ends = tt
-all_ending bytes written output n read now old new disk left (Status.LogDiffers place receipt kept) wrote ends = tt
+all_ending bytes written output n read now old new disk left (Status.LogDiffers place receipt kept) wrote ends = absurd wrote
 
 pub part_ending : (read now write wrote old new : ℕ) (status : Status) → IsDriveCause old new status → IsEnding read now write wrote old new status
 part_ending read now write wrote old new Status.Ok cause = tt
@@ -122,7 +122,7 @@ part_ending read now write wrote old new (Status.ReadFault faults) cause = absur
 part_ending read now write wrote old new (Status.WriteFault faults) cause = absurd cause
 part_ending read now write wrote old new (Status.DiskFault faults) cause = cause
 part_ending read now write wrote old new Status.NoMemory cause = tt
-part_ending read now write wrote old new (Status.LogDiffers place receipt kept) cause = tt
+part_ending read now write wrote old new (Status.LogDiffers place receipt kept) cause = absurd cause
 
 -- ---- the words
 

@@ -28,7 +28,7 @@ use Rattle.tp_site.specs.Site.{Starts}
 use Rattle.tp_drive.specs.declared.driven.DriveFault.{DriveFault}
 use Rattle.tp_drive.specs.declared.stop.Stop.{Stop}
 use Rattle.tp_drive.specs.Begun.{booted, recs}
-use Rattle.tp_drive.specs.Drives.{Fails, HasBootText, HasStarted, IsDriven, IsMismatch, IsPartDriven, LeavesBooted, RunsShort, opening_on}
+use Rattle.tp_drive.specs.Drives.{Fails, HasBootText, HasStarted, IsDriven, IsPartDriven, LeavesBooted, RunsShort, opening_on}
 use Rattle.tp_drive.proofs.Begins.{recs-placed}
 use Rattle.tp_serve.specs.Progress.{is_wide, journal_of}
 use Rattle.tp_serve.specs.Starting.{NotStarted, unread_by, unstarted_by}
@@ -36,7 +36,7 @@ use Rattle.tp_serve.proofs.Holding.{goes_on, wide_so}
 use Rattle.tp_serve.proofs.Runs.{size_one}
 use Rattle.tp_serve.proofs.Starts.{HasOpened, boot_small, not_started}
 use Rattle.tp_drive_tool.specs.Status.{driven_status, start_status, unread_status}
-use Rattle.tp_drive_tool.specs.Driving.{BeginsOn, DrivesShort, HasDriven, HasOther, HasPart, HaveTexts, IsDriveCause, IsMoment, LeavesLog, NotDriven}
+use Rattle.tp_drive_tool.specs.Driving.{BeginsOn, DrivesShort, HasDriven, HasPart, HaveTexts, IsDriveCause, IsMoment, LeavesLog, NotDriven}
 use Rattle.tp_drive_tool.proofs.AsNode.{as_node, behind_size}
 
 -- ---- the log that is left
@@ -114,7 +114,7 @@ module _ {D : Type 0} (faults : D → ℕ) (told : D → Option Story) (fuse : D
 
   pub drive_cause : (fault : DriveFault) (new : Kept D) → Fails st j name workers events new fault → IsDriveCause (faults disk) (faults new.disk) (driven_status fault)
   drive_cause (DriveFault.Start fault) new x = unstarted_cause fault new x
-  drive_cause (DriveFault.LogDiffers place receipt kept) new x = tt
+  drive_cause (DriveFault.LogDiffers place receipt kept) new x = absurd x
   drive_cause (DriveFault.DiskFault n) new x = omega (arith, has.counted, x.risen)
   drive_cause (DriveFault.Full size event) new x = inr refl
   drive_cause DriveFault.NoMemory new x = tt
@@ -185,26 +185,14 @@ module _ {D : Type 0} (faults : D → ℕ) (told : D → Option Story) (fuse : D
     parted : (new : Kept D) (stops : List (Option Stop)) → LeavesBooted st j name (told new.disk) new → AllByRecursion (HasText new.wide) new.list → IsPartDriven o workers events stops new.list → HasPart name workers events s (told new.disk) new.shut stops new.list
     parted new stops b texts part = record { o = o; begins = begins b.order; part = part; leaves = leaves new b texts }
 
-    -- a receipt differs
-    other : (new : Kept D) (place : ℕ) (receipt kept : Receipt) → LeavesBooted st j name (told new.disk) new → AllByRecursion (HasText new.wide) new.list → IsMismatch o workers events new.wide new.list place receipt kept → HasOther name workers events s (told new.disk) place receipt kept
-    other new place receipt kept b texts x = record {
-      o = o;
-      begins = begins b.order;
-      shut = new.shut;
-      list = new.list;
-      leaves = leaves new b texts;
-      mismatch = subst (λ (w : Bool). IsMismatch o workers events w new.list place receipt kept) (b.wide ∙ wide_is) x;
-    }
-
-    short : (new : Kept D) → LeavesBooted st j name (told new.disk) new → AllByRecursion (HasText new.wide) new.list → RunsShort o workers events new.wide new.list → DrivesShort name workers events s (told new.disk)
-    short new b texts (inl (stops, part)) = inr (inl (new.shut, stops, new.list, parted new stops b texts part))
-    short new b texts (inr (place, receipt, kept, x)) = inr (inr (place, receipt, kept, other new place receipt kept b texts x))
+    short : (new : Kept D) → LeavesBooted st j name (told new.disk) new → AllByRecursion (HasText new.wide) new.list → RunsShort o workers events new.list → DrivesShort name workers events s (told new.disk)
+    short new b texts (stops, part) = inr (new.shut, stops, new.list, parted new stops b texts part)
 
     pub not_driven : (fault : DriveFault) (new : Kept D) → Fails st j name workers events new fault → HasBootText st j name new fault → (HasStarted fault → LeavesBooted st j name (told new.disk) new)
         → new.gate ≡ place_behind (bodies_of new.wide new.list) → AllByRecursion (HasText new.wide) new.list → NotDriven name workers events s (told new.disk) (driven_status fault)
     not_driven (DriveFault.Start fault) new x text started gate texts =
         unstarted_so name workers events s (told new.disk) fault (not_started faults told fuse disk j has name s is file fault new x text)
-    not_driven (DriveFault.LogDiffers place receipt kept) new x text started gate texts = other new place receipt kept (started tt) texts x
+    not_driven (DriveFault.LogDiffers place receipt kept) new x text started gate texts = absurd x
     not_driven (DriveFault.DiskFault n) new x text started gate texts =
         let b = started tt in
         inr (record {

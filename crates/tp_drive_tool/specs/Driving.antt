@@ -15,7 +15,6 @@ use Rattle.tp_model.specs.LogCommands.{Has, Is_foreign, opened, start_leaves}
 use Rattle.tp_model.specs.NodeRun.{Opening, node_run, records_at}
 use Rattle.tp_model.specs.NodeTranscript.{node_transcript, written_of}
 use Rattle.tp_model.specs.Transcript.{Done}
-use Rattle.tp_journal.specs.declared.receipts.Receipt.{Receipt}
 use Rattle.tp_journal.specs.Log.{StandsFor, StandsForEither, most_bytes, place_behind}
 use Rattle.tp_journal.specs.Records.{HasText, bodies_of}
 use Rattle.tp_journal.specs.Told.{LeavesOnly, LeavesNow}
@@ -23,7 +22,7 @@ use Rattle.tp_shared_log.specs.Images.{StandsForFirst}
 use Rattle.tp_log_tools.specs.Opening.{ReadsAs}
 use Rattle.tp_drive.specs.declared.stop.Stop.{Stop as LaneStop}
 use Rattle.tp_drive.specs.Begun.{booted}
-use Rattle.tp_drive.specs.Drives.{IsMismatch, IsPartDriven}
+use Rattle.tp_drive.specs.Drives.{IsPartDriven}
 use Rattle.tp_drive.specs.Endings.{IsLeastStop}
 use Rattle.tp_drive.specs.Woven.{IsWoven}
 use Rattle.tp_serve.specs.Progress.{is_wide}
@@ -104,22 +103,11 @@ pub record IsShutBy (name : List ℕ) (workers : ℕ) (events : List Given) (sto
   pub list : List LogRec
   pub part : HasPart name workers events story new (Some faults) stops list
 
--- a receipt that a worker was given is not the record that stands in the log at its turn, and that record stands at this place
-pub record HasOther (name : List ℕ) (workers : ℕ) (events : List Given) (story : Story) (new : Option Story) (place : ℕ) (receipt kept : Receipt) : Type 0 where
-  pub o : Opening
-  pub begins : BeginsOn name story o
-  pub shut : Option ℕ
-  pub list : List LogRec
-  pub leaves : LeavesLog o list shut story new
-  pub mismatch : IsMismatch o workers events (is_wide o.version) list place receipt kept
-
 -- Memory ran out. The log was not opened, or the site did not start, and the log stays as it is; or after the boot the log has what the
--- lanes forced; or a receipt is not the record that stands at its turn, and could not be shown.
+-- lanes forced.
 abbrev pub DrivesShort : List ℕ → ℕ → List Given → Story → Option Story → Type 0
 DrivesShort name workers events story new =
-    IsUnopened story new
-    ⊎ ((shut : Option ℕ) × (stops : List (Option LaneStop)) × (list : List LogRec) × HasPart name workers events story new shut stops list)
-    ⊎ ((place : ℕ) × (receipt : Receipt) × (kept : Receipt) × HasOther name workers events story new place receipt kept)
+    IsUnopened story new ⊎ ((shut : Option ℕ) × (stops : List (Option LaneStop)) × (list : List LogRec) × HasPart name workers events story new shut stops list)
 
 -- why not all events were done, where the disk tells its story
 abbrev pub NotDriven : List ℕ → ℕ → List Given → Story → Option Story → Status → Type 0
@@ -134,7 +122,7 @@ NotDriven name workers events story new (Status.WriteFault faults) = ⊥
 NotDriven name workers events story new (Status.DiskFault faults) =
     (IsUnopened story new ⊎ FailsBefore name story new) ⊎ IsShutBy name workers events story new faults
 NotDriven name workers events story new Status.NoMemory = DrivesShort name workers events story new
-NotDriven name workers events story new (Status.LogDiffers place receipt kept) = HasOther name workers events story new place receipt kept
+NotDriven name workers events story new (Status.LogDiffers place receipt kept) = ⊥
 
 -- before the first frame the log or the boots are spent; in a frame it is the log alone
 abbrev pub IsSpentAt : What → ℕ → Type 0
@@ -151,4 +139,4 @@ IsDriveCause old new (Status.ReadFault faults) = ⊥
 IsDriveCause old new (Status.WriteFault faults) = ⊥
 IsDriveCause old new (Status.DiskFault faults) = HasRisen old new
 IsDriveCause old new Status.NoMemory = Unit {0}
-IsDriveCause old new (Status.LogDiffers place receipt kept) = Unit {0}
+IsDriveCause old new (Status.LogDiffers place receipt kept) = ⊥

@@ -88,7 +88,7 @@ Does d r same_disk (Status.ReadFault faults) = same_disk
 Does d r same_disk (Status.WriteFault faults) = DoesAll d r (Status.WriteFault faults)
 Does d r same_disk (Status.DiskFault faults) = DoesPart d r (Status.DiskFault faults)
 Does d r same_disk Status.NoMemory = same_disk ⊎ DoesPart d r Status.NoMemory ⊎ DoesAll d r Status.NoMemory
-Does d r same_disk (Status.LogDiffers place receipt kept) = DoesPart d r (Status.LogDiffers place receipt kept)
+Does d r same_disk (Status.LogDiffers place receipt kept) = ⊥
 
 -- nothing is done
 pub record Stays (same_source same_sink same_disk : Type 0) : Type 0 where
@@ -119,7 +119,7 @@ pub record IsProvided (d : Drive) (r : Ran) : Type 0 where
   pub boot : boot_of (opening d.name version listed) ≡ suc greatest → ⊥
   pub room : size_of version (log_after (opening d.name version listed) (input_of bytes).events) + 65538 ≤ most_bytes
 
--- all events were done, and their outputs written; or memory ran out, or a receipt differs from the log
+-- all events were done, and their outputs written; or memory ran out
 abbrev pub EndsWell : Status → Type 0
 EndsWell Status.Ok = Unit {0}
 EndsWell Status.Usage = ⊥
@@ -130,7 +130,7 @@ EndsWell (Status.ReadFault faults) = ⊥
 EndsWell (Status.WriteFault faults) = ⊥
 EndsWell (Status.DiskFault faults) = ⊥
 EndsWell Status.NoMemory = Unit {0}
-EndsWell (Status.LogDiffers place receipt kept) = Unit {0}
+EndsWell (Status.LogDiffers place receipt kept) = ⊥
 
 -- So a run ends, where its words are a command line and nothing outside fails: its input and its log are such, and no count rises.
 abbrev pub Completes : Option SaidDrive → Ran → ℕ → ℕ → ℕ → ℕ → ℕ → ℕ → Status → Type 0
@@ -150,4 +150,4 @@ IsEnding read_old read_new write_old write_new disk_old disk_new (Status.ReadFau
 IsEnding read_old read_new write_old write_new disk_old disk_new (Status.WriteFault faults) = IsFaultOf faults write_old write_new
 IsEnding read_old read_new write_old write_new disk_old disk_new (Status.DiskFault faults) = HasRisen disk_old disk_new
 IsEnding read_old read_new write_old write_new disk_old disk_new Status.NoMemory = Unit {0}
-IsEnding read_old read_new write_old write_new disk_old disk_new (Status.LogDiffers place receipt kept) = Unit {0}
+IsEnding read_old read_new write_old write_new disk_old disk_new (Status.LogDiffers place receipt kept) = ⊥

@@ -23,8 +23,8 @@ use tp_words::{Drive, WordsFault, read_drive};
 ///
 /// An input that is bad, or that passes a limit, ends the run before the disk is touched. Then comes `Foreign`, and a `Limit` at
 /// 0 where no boot number is left or the boot has no room, and then the faults of the drive. With every status but `Ok` and
-/// `WriteFault` nothing is written. Where nothing outside fails and there is room, it ends with `Ok`, unless memory runs out or a
-/// receipt differs from the log.
+/// `WriteFault` nothing is written. Where nothing outside fails and there is room, it ends with `Ok`, unless memory runs out.
+/// `LogDiffers` never comes.
 pub fn run_drive<R: Threads + Wait + Sync, S: Source, K: Sink, D: Disk + Send, G: Gate + Sync>(
     rt: &R,
     alloc: Global,
@@ -52,16 +52,15 @@ pub fn run_drive<R: Threads + Wait + Sync, S: Source, K: Sink, D: Disk + Send, G
     //   is as on Ok; with every other status nothing is written
     // Promise 7.7: Foreign comes exactly where the bytes are no log in order, and a limit at 0
     //   exactly where no boot number is left or the boot has no room
-    // Promise 7.8: A limit of the log in a frame, a fault of the disk and a log that differs come
-    //   as `drive` says, with the log that is then left
+    // Promise 7.8: A limit of the log in a frame and a fault of the disk come as `drive` says, with
+    //   the log that is then left; `LogDiffers` never comes
     ensures answers { Answers (drive_said (map (λ w. w.now) words.now)) (record { told = D.told disk; story = D.told result.1; left = S.left source.old; unread = S.left source.new; written = K.written sink.old; output = K.written sink.new }) result.0 (source.new ≡ source.old) (sink.new ≡ sink.old) (result.1 ≡ disk) }
     ensures silent { IsSilent result.0 → sink.new ≡ sink.old }
     // Promise 7.9: A fault comes only where that object's count rose in the call
     ensures ending { IsEnding (S.fault_count source.old) (S.fault_count source.new) (K.fault_count sink.old) (K.fault_count sink.new) (D.fault_count disk) (D.fault_count result.1) result.0 }
     // Promise 7.10: Where no count rises, the words are a command line, the input is good to its
     //   end and within the limits, and the log is in order, leaves a boot number, and has room for
-    //   all records and one more of the greatest length, a run ends with Ok; or memory runs out, or
-    //   a receipt differs from the log as 6.7 says
+    //   all records and one more of the greatest length, a run ends with Ok; or memory runs out
     ensures complete { Completes (drive_said (map (λ w. w.now) words.now)) (record { told = D.told disk; story = D.told result.1; left = S.left source.old; unread = S.left source.new; written = K.written sink.old; output = K.written sink.new }) (S.fault_count source.old) (S.fault_count source.new) (K.fault_count sink.old) (K.fault_count sink.new) (D.fault_count disk) (D.fault_count result.1) result.0 }
 {
     match read_drive(alloc, words) {

@@ -45,7 +45,8 @@ pub enum Status {
     },
     /// No memory could be had.
     NoMemory,
-    /// The record that was read back, at that place, is not that of the receipt.
+    /// The log has another record at that place than the receipt tells. No run ends so: the log has each record at the place that
+    /// its receipt tells.
     LogDiffers {
         place: u64,
         receipt: Receipt,
