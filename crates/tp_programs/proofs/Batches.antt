@@ -187,7 +187,6 @@ batch_is d r Status.NoMemory story version listed (inr (inl k)) s = go (k.stoppe
   where
     go : NotDriven d.name d.workers k.events story r.story Status.NoMemory → IsBatch d r Status.NoMemory story version listed
     go (inl unopened) = inl (inr unopened)
-    go (inr (inl x)) = inr (inl (part_done d r Status.NoMemory story k (has_part d.name d.workers k.events story version listed s.file.small s.opens r.story x.0 x.1 x.2 x.3)))
-    go (inr (inr x)) = inr (inr (inr (k.events, x.0, x.1, x.2, x.3)))
-batch_is d r Status.NoMemory story version listed (inr (inr k)) s = inr (inr (inl (all_done d r Status.NoMemory story version listed k s)))
-batch_is d r (Status.LogDiffers place receipt kept) story version listed k s = (k.events, place, receipt, kept, k.stopped story s.told s.file)
+    go (inr x) = inr (inl (part_done d r Status.NoMemory story k (has_part d.name d.workers k.events story version listed s.file.small s.opens r.story x.0 x.1 x.2 x.3)))
+batch_is d r Status.NoMemory story version listed (inr (inr k)) s = inr (inr (all_done d r Status.NoMemory story version listed k s))
+batch_is d r (Status.LogDiffers place receipt kept) story version listed k s = absurd k

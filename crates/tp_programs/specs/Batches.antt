@@ -10,12 +10,10 @@ use Rattle.tp_model.specs.NodeRun.{node_run}
 use Rattle.tp_model.specs.NodeTranscript.{written_of}
 use Rattle.tp_model.specs.Lanes.{lane, outputs_in}
 use Rattle.tp_journal.specs.Told.{LeavesNow}
-use Rattle.tp_journal.specs.declared.receipts.Receipt.{Receipt}
 use Rattle.tp_log_tools.specs.Readings.{IsFile}
 use Rattle.tp_serve.specs.Starting.{IsUnopened}
 use Rattle.tp_words.specs.declared.drive.Drive.{Drive}
 use Rattle.tp_drive_tool.specs.declared.status.Status.{Status}
-use Rattle.tp_drive_tool.specs.Driving.{HasOther}
 use Rattle.tp_drive_tool.specs.Reading.{HasRead}
 use Rattle.tp_drive_tool.specs.Running.{Ran, Writes, Does}
 use Rattle.tp_briefs.specs.Starts.{on}
@@ -68,18 +66,12 @@ pub record IsPartBatch (d : Drive) (r : Ran) (story : Story) : Type 0 where
 abbrev pub IsIdleBatch : Ran → Story → Type 0
 IsIdleBatch r story = (r.story ≡ r.told) ⊎ IsUnopened story r.story
 
--- the log does not have the records of which its workers were given receipts
-abbrev pub IsMismatched : Drive → Ran → Story → Type 0
-IsMismatched d r story = (events : List Given) × (place : ℕ) × (receipt : Receipt) × (kept : Receipt)
-    × HasOther d.name d.workers events story r.story place receipt kept
-
 -- where memory runs out, it may be so after all events have happened
 abbrev pub IsBatch : Drive → Ran → Status → Story → LogVersion → List Placed → Type 0
 IsBatch d r Status.Ok story version listed = IsWholeBatch d r Status.Ok story version listed
 IsBatch d r (Status.WriteFault faults) story version listed = IsWholeBatch d r (Status.WriteFault faults) story version listed
-IsBatch d r Status.NoMemory story version listed = IsIdleBatch r story ⊎ IsPartBatch d r story
-    ⊎ IsWholeBatch d r Status.NoMemory story version listed ⊎ IsMismatched d r story
-IsBatch d r (Status.LogDiffers place receipt kept) story version listed = IsMismatched d r story
+IsBatch d r Status.NoMemory story version listed = IsIdleBatch r story ⊎ IsPartBatch d r story ⊎ IsWholeBatch d r Status.NoMemory story version listed
+IsBatch d r (Status.LogDiffers place receipt kept) story version listed = ⊥
 IsBatch d r status story version listed = IsIdleBatch r story ⊎ IsPartBatch d r story
 
 -- by what `run_drive` does where its disk is as it was, or else

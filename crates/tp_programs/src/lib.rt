@@ -28,11 +28,10 @@ pub fn a_run_of_tx_is_a_process()
 //   that tells its story and holds a log, whenever and however it stopped, also where memory ran
 //   out: what a crash leaves then is the log of one process, which was given the first of each
 //   worker's events, or all of them where the batch wrote anything, with the outputs that one
-//   thread gives; where the log was not opened it stays as it is. It is not shown of a log that
-//   does not have the records of which the workers were given receipts (6.7)
+//   thread gives; where the log was not opened it stays as it is
 /// And so does what `run_drive` says: its workers are one process, to which the events were given in the order of their records, those of each
 /// worker in their order. Where it wrote anything, it was given all events, and they give the outputs that one thread gives. It is so however
-/// the run ended, except where the log does not have the records of which the workers were given receipts.
+/// the run ended.
 pub fn a_batch_of_tpdrive_is_a_process()
     ensures { BatchIsAProcess }
 {}
