@@ -8,7 +8,7 @@ use crate::mermaid::write_mermaid;
 use crate::page::write_page;
 use crate::plan::Plan;
 use crate::svg::write_svg;
-use crate::{Nodes, View};
+use crate::{Nodes, Picture, View};
 use std::alloc::Global;
 use tp_model::{Line, LineRequest, OutLine, OutLines};
 use tp_names::{NoMemory, Octets};
@@ -54,24 +54,18 @@ pub fn draw(alloc: Global, lines: OutLines, form: &Form) -> Result<Octets, NoMem
     let lines = chosen(alloc, form.nodes.numbers(), lines)?;
     let plan = Plan::new(alloc, lines.as_slice())?;
     let view = view_of(alloc, form, lines.as_slice())?;
-    let mut out = Octets::new(alloc);
-    write_picture(alloc, form.kind, view, &plan, &mut out)?;
-    Ok(out)
+    let mut out = Picture::new(alloc);
+    write_picture(form.kind, view, &plan, &mut out)?;
+    Ok(out.into_text())
 }
 
-fn write_picture(
-    alloc: Global,
-    kind: Kind,
-    view: View,
-    plan: &Plan,
-    out: &mut Octets,
-) -> Result<(), NoMemory>
+fn write_picture(kind: Kind, view: View, plan: &Plan, out: &mut Picture) -> Result<(), NoMemory>
     ensures { OnOk result (out.new ≡ out.old ++ picture_in kind view plan.now) }
 {
     match kind {
-        Kind::Svg => write_svg(alloc, view, plan, out),
-        Kind::Mermaid => write_mermaid(alloc, view, plan, out),
-        Kind::Html => write_page(alloc, view, plan, out),
+        Kind::Svg => write_svg(view, plan, out),
+        Kind::Mermaid => write_mermaid(view, plan, out),
+        Kind::Html => write_page(view, plan, out),
     }
 }
 

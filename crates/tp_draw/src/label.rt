@@ -1,6 +1,7 @@
 //! The words beside a shape.
 ghost use Rattle.std.specs.Prelude.{◌≡◌, ◌++◌, ◌∷◌, [], OnOk, codes};
-ghost use Rattle.tp_model.specs.Words.{words, decimal};
+ghost use Rattle.tp_text_builder.specs.Written.{Adds};
+ghost use Rattle.tp_model.specs.Words.{words};
 ghost use Rattle.tp_model.specs.OutText.{dialogue_words, state_words, indication_words};
 ghost use Rattle.tp_draw.specs.Reasons.{reason};
 ghost use Rattle.tp_draw.specs.Labels.{label, log_label, sent_label, first_word};
@@ -9,46 +10,54 @@ use std::alloc::Global;
 use tp_model::{LogWords, OutLine, SentWords};
 use tp_names::{NoMemory, Octets};
 use tp_records::{DialogueRecord, Indication, RecState};
-use tp_schedule::word::{Word, write_words};
+use tp_text_builder::Text;
 
 /// Puts the words beside the line's shape at the end of `out`.
 pub(crate) fn write_label(alloc: Global, line: &OutLine, out: &mut Octets) -> Result<(), NoMemory>
     ensures { OnOk result (out.new ≡ out.old ++ label line.now) }
 {
+    let mut text = Text::after(alloc, out);
+    put_label(line, &mut text);
+    text.done(out)
+}
+
+fn put_label(line: &OutLine, text: &mut Text)
+    ensures { Adds text.old (label line.now) text.new }
+{
     match line {
-        OutLine::Log { rec, .. } => write_log_label(alloc, rec, out),
+        OutLine::Log { rec, .. } => put_log_label(rec, text),
         OutLine::Take { frame } => {
-            write_words(alloc, &[Word::Short(*frame), Word::Text("again")], out)
+            text.number(u64::from(*frame));
+            text.word(" again");
         }
-        OutLine::Send { frame, rec, .. } => write_sent_label(alloc, *frame, rec, out),
-        OutLine::Tell { indication, .. } => {
-            write_words(alloc, &[Word::Text(told_word(indication))], out)
+        OutLine::Send { frame, rec, .. } => {
+            text.number(u64::from(*frame));
+            text.space();
+            text.word(sent_words(rec));
         }
+        OutLine::Tell { indication, .. } => text.word(told_word(indication)),
         OutLine::Refused { number } => {
-            write_words(
-                alloc,
-                &[Word::Text("refused:"), Word::Text(reason(*number))],
-                out,
-            )
+            text.word("refused: ");
+            text.word(reason(*number));
         }
         OutLine::Dropped { number } => {
-            write_words(
-                alloc,
-                &[Word::Text("dropped:"), Word::Text(reason(*number))],
-                out,
-            )
+            text.word("dropped: ");
+            text.word(reason(*number));
         }
         OutLine::Lost { frame } => {
-            write_words(alloc, &[Word::Short(*frame), Word::Text("lost")], out)
+            text.number(u64::from(*frame));
+            text.word(" lost");
         }
         OutLine::Stopped { fate, .. } => {
-            write_words(alloc, &[Word::Text("crash:"), Word::Fate(*fate)], out)
+            text.word("crash: ");
+            text.fate(*fate);
         }
         OutLine::State { phase, kept, .. } => {
-            let (phase, kept) = (Word::Phase(*phase), Word::Long(*kept));
-            write_words(alloc, &[phase, Word::Text("kept"), kept], out)
+            text.phase(*phase);
+            text.word(" kept");
+            text.next_number(*kept);
         }
-        _ => Ok(()),
+        _ => {}
     }
 }
 
@@ -82,41 +91,23 @@ fn reason(number: u8) -> &'static str
     }
 }
 
-fn write_log_label(alloc: Global, rec: &LogWords, out: &mut Octets) -> Result<(), NoMemory>
-    ensures { OnOk result (out.new ≡ out.old ++ log_label rec.now) }
+fn put_log_label(rec: &LogWords, text: &mut Text)
+    ensures { Adds text.old (log_label rec.now) text.new }
 {
     match rec {
         LogWords::Boot { boot } => {
-            write_words(alloc, &[Word::Text("boot"), Word::Long(*boot)], out)
+            text.word("boot");
+            text.next_number(*boot);
         }
-        LogWords::Ready { .. } => write_words(alloc, &[Word::Text("ready")], out),
+        LogWords::Ready { .. } => text.word("ready"),
         LogWords::Heuristic { outcome, .. } => {
-            write_words(
-                alloc,
-                &[Word::Text("decides"), Word::Outcome(*outcome)],
-                out,
-            )
+            text.word("decides ");
+            text.outcome(*outcome);
         }
-        LogWords::Commit { .. } => write_words(alloc, &[Word::Text("commit")], out),
-        LogWords::Damage { .. } => write_words(alloc, &[Word::Text("damage")], out),
-        LogWords::End { .. } => write_words(alloc, &[Word::Text("end")], out),
+        LogWords::Commit { .. } => text.word("commit"),
+        LogWords::Damage { .. } => text.word("damage"),
+        LogWords::End { .. } => text.word("end"),
     }
-}
-
-// A frame's number, and what it is.
-fn write_sent_label(
-    alloc: Global,
-    frame: u16,
-    rec: &SentWords,
-    out: &mut Octets,
-) -> Result<(), NoMemory>
-    ensures { OnOk result (out.new ≡ out.old ++ words (decimal frame ∷ sent_label rec.now ∷ [])) }
-{
-    write_words(
-        alloc,
-        &[Word::Short(frame), Word::Text(sent_words(rec))],
-        out,
-    )
 }
 
 fn sent_words(rec: &SentWords) -> &'static str

@@ -7,61 +7,57 @@ ghost use Rattle.tp_draw.specs.Views.{down};
 use crate::arrow::write_arrow;
 use crate::coordinates::{along, down, is_shown};
 use crate::figure::write_figure;
-use crate::piece::{Piece, write_pieces};
+use crate::piece::Piece;
 use crate::svg_shapes::{write_ground, write_shape};
 use crate::tone::tone_of;
-use crate::{Band, End, Shape, Tone, Track, View};
-use std::alloc::Global;
+use crate::{Band, End, Picture, Shape, Tone, Track, View};
 use tp_model::OutLine;
 use tp_names::{NoMemory, Octets};
 use tp_transcript::write_out;
 
 /// A row: a line with its shape, and the lanes after it. Its text is made in `text`.
 pub(crate) fn write_row(
-    alloc: Global,
     view: View,
     at: (usize, Shape),
     tracks: &[Track],
     line: &OutLine,
     text: &mut Octets,
-    out: &mut Octets,
+    out: &mut Picture,
 ) -> Result<(), NoMemory>
     ensures { OnOk result (out.new ≡ out.old ++ row_text view at.0 at.1 tracks.now line.now) }
 {
     if is_shown(view, at.0) {
-        write_shown(alloc, view, at, tracks, line, text, out)
+        write_shown(view, at, tracks, line, text, out)
     } else {
-        write_hidden(alloc, view, at, line, out)
+        write_hidden(view, at, line, out)
     }
 }
 
 fn write_shown(
-    alloc: Global,
     view: View,
     at: (usize, Shape),
     tracks: &[Track],
     line: &OutLine,
     text: &mut Octets,
-    out: &mut Octets,
+    out: &mut Picture,
 ) -> Result<(), NoMemory>
     ensures { OnOk result (out.new ≡ out.old ++ shown_row view at.0 at.1 tracks.now line.now) }
 {
     let (row, shape) = at;
-    write_ground(alloc, view, row, shape, line, out)?;
-    write_tracks(alloc, view, down(view, 0, row), tracks, out)?;
-    write_shape(alloc, view, row, shape, line, out)?;
+    write_ground(view, row, shape, line, out)?;
+    write_tracks(view, down(view, 0, row), tracks, out)?;
+    write_shape(view, row, shape, line, out)?;
     text.truncate(0);
-    write_out(alloc, line, text)?;
-    write_line(alloc, view, row, line, text.as_slice(), out)
+    write_out(out.alloc(), line, text)?;
+    write_line(view, row, line, text.as_slice(), out)
 }
 
 // The arrow of a frame that was sent before the lines that are shown, and ends later.
 fn write_hidden(
-    alloc: Global,
     view: View,
     at: (usize, Shape),
     line: &OutLine,
-    out: &mut Octets,
+    out: &mut Picture,
 ) -> Result<(), NoMemory>
     ensures { OnOk result (out.new ≡ out.old ++ hidden_row view at.0 at.1 line.now) }
 {
@@ -69,7 +65,7 @@ fn write_hidden(
     match shape {
         Shape::Arrow { from, to, end, .. } => {
             if row < view.from && is_later(view, end) {
-                write_arrow(alloc, view, row, (from, to), "", (tone_of(line), end), out)
+                write_arrow(view, row, (from, to), "", (tone_of(line), end), out)
             } else {
                 Ok(())
             }
@@ -91,67 +87,48 @@ fn is_later(view: View, end: End) -> bool
 }
 
 // The bands on the lanes, from that height on.
-fn write_tracks(
-    alloc: Global,
-    view: View,
-    y: u64,
-    tracks: &[Track],
-    out: &mut Octets,
-) -> Result<(), NoMemory>
+fn write_tracks(view: View, y: u64, tracks: &[Track], out: &mut Picture) -> Result<(), NoMemory>
     ensures { OnOk result (out.new ≡ out.old ++ tracks_text view y 0 tracks.now) }
 {
     for (place, track) in tracks.iter().enumerate() {
-        write_track(alloc, (along(view, 105, place), y), *track, out)?;
+        write_track((along(view, 105, place), y), *track, out)?;
     }
     Ok(())
 }
 
-fn write_track(
-    alloc: Global,
-    at: (u64, u64),
-    track: Track,
-    out: &mut Octets,
-) -> Result<(), NoMemory>
+fn write_track(at: (u64, u64), track: Track, out: &mut Picture) -> Result<(), NoMemory>
     ensures { OnOk result (out.new ≡ out.old ++ track_text at.0 at.1 track) }
 {
     let way = "h10v20h-10z";
     if track.down {
         let crossed = "h10v20h-10zl10 20m0-20l-10 20";
-        return write_figure(alloc, "k", Tone::Plain, at, crossed, out);
+        return write_figure("k", Tone::Plain, at, crossed, out);
     }
     match track.band {
         Band::Quiet => Ok(()),
-        Band::InDoubt => write_figure(alloc, "i", Tone::Plain, at, way, out),
-        Band::Committed => write_figure(alloc, "y", Tone::Plain, at, way, out),
-        Band::RolledBack => write_figure(alloc, "o", Tone::Plain, at, way, out),
-        Band::Rolling => write_figure(alloc, "o", Tone::Plain, at, way, out),
+        Band::InDoubt => write_figure("i", Tone::Plain, at, way, out),
+        Band::Committed => write_figure("y", Tone::Plain, at, way, out),
+        Band::RolledBack => write_figure("o", Tone::Plain, at, way, out),
+        Band::Rolling => write_figure("o", Tone::Plain, at, way, out),
     }
 }
 
 // The line's own text, on the left.
 fn write_line(
-    alloc: Global,
     view: View,
     row: usize,
     line: &OutLine,
     text: &[u8],
-    out: &mut Octets,
+    out: &mut Picture,
 ) -> Result<(), NoMemory>
     requires { text.now ≡ out_text line.now }
     ensures { OnOk result (out.new ≡ out.old ++ line_text view row line.now) }
 {
     let y = down(view, 14, row);
     if is_bold(line) {
-        write_text(
-            alloc,
-            (y, view.most),
-            " font-weight='bold'",
-            line,
-            text,
-            out,
-        )
+        write_text((y, view.most), " font-weight='bold'", line, text, out)
     } else if view.all {
-        write_text(alloc, (y, view.most), "", line, text, out)
+        write_text((y, view.most), "", line, text, out)
     } else {
         Ok(())
     }
@@ -159,32 +136,27 @@ fn write_line(
 
 #[tactic(auto, unfolding(crate::specs::Svg::text_at))]
 fn write_text<'a>(
-    alloc: Global,
     at: (u64, usize),
     weight: &'a str,
     line: &'a OutLine,
     text: &'a [u8],
-    out: &mut Octets,
+    out: &mut Picture,
 ) -> Result<(), NoMemory>
     requires { text.now ≡ out_text line.now }
     ensures { OnOk result (out.new ≡ out.old ++ text_at at.0 at.1 weight.now line.now) }
 {
     let tone = tone_of(line);
-    write_pieces(
-        alloc,
-        &[
-            Piece::Text("<text class='"),
-            Piece::Tone(tone),
-            Piece::Text("' x='8' y='"),
-            Piece::Number(at.0),
-            Piece::Text("'"),
-            Piece::Text(weight),
-            Piece::Text(">"),
-            Piece::Cut(text, at.1),
-            Piece::Text("</text>\n"),
-        ],
-        out,
-    )
+    out.put(&[
+        Piece::Text("<text class='"),
+        Piece::Tone(tone),
+        Piece::Text("' x='8' y='"),
+        Piece::Number(at.0),
+        Piece::Text("'"),
+        Piece::Text(weight),
+        Piece::Text(">"),
+        Piece::Cut(text, at.1),
+        Piece::Text("</text>\n"),
+    ])
 }
 
 fn is_bold(line: &OutLine) -> bool
