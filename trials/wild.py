@@ -73,6 +73,7 @@ class Users:
         self.leaving: typing.Dict[int, typing.List[bytes]] = {}  # the trees that a node asked to leave, and was not answered
         self.left: typing.Set[typing.Tuple[int, bytes]] = set()  # who left, or may have left
         self.ends: typing.Dict[bytes, typing.Tuple[str, int]] = {}  # what a root was told at the end of its tree, and the report
+        self.given_up: typing.Dict[typing.Tuple[int, int], bytes] = {}  # who gave whom up, and in which tree
         self.peers: typing.Dict[int, typing.Set[int]] = {}  # whom a node asked for a dialogue
         self.said: typing.Dict[typing.Tuple[int, int], int] = {}  # how much data one node gave for another
         self.heard: typing.Dict[typing.Tuple[int, int], int] = {}  # the last that came
@@ -118,6 +119,9 @@ class Users:
         if what[0] == "mend":
             for one, other in self.cut.pop(what[1], ()):
                 self.lose_both(one, other)
+        elif what[0] == "give up":
+            body = b"\x06" + wire.short(what[1].number) + wire.short(what[2].number)
+            what[1].site.give(body, what[1], ("give up", what[2].number))
         elif what[0] == "kill in start":
             if what[1].up and not what[1].ready and not self.quiet:
                 self.counts["kills in a start"] += 1
@@ -129,6 +133,7 @@ class Users:
                 what[1].compact()
             for node in what[1].nodes:
                 self.current.pop(node.number, None)
+                self.given_up = {pair: tree for pair, tree in self.given_up.items() if pair[0] != node.number}
                 self.left |= {(node.number, tree) for tree in self.leaving.pop(node.number, [])}
                 self.rolling.discard(node.number)
             what[1].start()
@@ -171,6 +176,12 @@ class Users:
             if refused is None:
                 self.counts["left"] += 1
                 self.left |= {(node.number, tree), (node.number, self.current.get(node.number, tree))}
+        elif word == "give up" and refused is None:
+            self.counts["given up"] += 1
+            tree = self.current.get(node.number, b"")
+            if tree and self.given_up.get((node.number, subject)) == tree:
+                self.fault("node %d gives %d up twice" % (node.number, subject))
+            self.given_up[node.number, subject] = tree
         elif word == "ask" and refused is None and subject in (0x0E, 0x0F):
             self.counts["deferrals"] += 1
         elif word == "count" and refused is None:
@@ -180,6 +191,8 @@ class Users:
         draw, word = self.draw, wire.TOLD[code]
         self.note_down(node.number, word, rest.hex())
         answers: typing.List[int] = []
+        if word == "begin-dialogue" and (node.superior is None or rest[:2] != wire.short(node.superior.number)):
+            self.fault("node %d is offered a dialogue by a stranger" % node.number)
         if word == "rollback":
             self.rolling.add(node.number)
         if word in ("commit-complete", "rollback-complete"):
@@ -215,7 +228,10 @@ class Users:
         elif word in ("commit", "rollback"):
             answers = [wire.DONE]
             if word == "commit" and node.children and draw.random() < 0.2:
-                self.later(draw.uniform(0, 0.01), "meddle", node, b"\x06" + wire.short(node.number) + wire.short(draw.choice(node.children).number), "given up")
+                branch = draw.choice(node.children)
+                answers = draw.choice([answers, []])  # where it is not done, a retry tells it again
+                for delay in draw.choice([(0.0,), (0.0, 0.001), (0.01,), (0.001, 0.02)]):
+                    self.later(delay, "give up", node, branch)
         if draw.random() < 0.95:
             for answer in answers:
                 self.request(node, answer)
