@@ -10,9 +10,11 @@ use Rattle.tp_replay.specs.declared.status.Status.{Status}
 use Rattle.tp_replay.specs.Status.{ended}
 
 -- Before every frame, where the log is foreign, no boot number is left or the boot has no room, nothing is read and nothing written.
-pub record ServesFace (name : List ℕ) (status : Status) (told story : Option Story) (left unread written output : Option (List ℕ)) (same_sink : Type 0) : Type 0 where
+pub record ServesFace (name : List ℕ) (status : Status) (told story : Option Story) (left unread written output : Option (List ℕ))
+    (same_sink : Type 0) : Type 0 where
   pub answer : Result (Unit {0}) Stop
   pub ends : status ≡ ended answer
-  pub transacts : (s : Story) → told ≡ Some s → IsFile (seen s) → Transacts name (record { told = s; story = story; left = left; unread = unread; written = written; output = output }) answer
+  pub transacts : (s : Story) → told ≡ Some s → IsFile (seen s)
+      → Transacts name (record { told = s; story = story; left = left; unread = unread; written = written; output = output }) answer
   pub foreign : (at : ℕ) → answer ≡ Err (Stop.Foreign at) → (unread ≡ left) × same_sink
   pub before : (what : What) → answer ≡ Err (Stop.Limit what 0) → (unread ≡ left) × same_sink

@@ -20,7 +20,9 @@ pub fn audit_logs<S: Source, K: Sink>(
     sink: &mut K,
 ) -> (Status, Vec<Mismatch>)
     // Promise 18.15, part 2 [clauses ends audits]
-    ensures ends { (disk_old disk_new : ℕ) → Ends (exits Command.Audit) (S.fault_count source.old) (S.fault_count source.new) (K.fault_count sink.old) (K.fault_count sink.new) disk_old disk_new result.0 }
+    ensures ends { (disk_old disk_new : ℕ)
+        → Ends (exits Command.Audit) (S.fault_count source.old) (S.fault_count source.new) (K.fault_count sink.old) (K.fault_count sink.new)
+        disk_old disk_new result.0 }
     ensures audits { AuditsLogs result.0 (S.left source.old) (S.left source.new) (K.written sink.old) (K.written sink.new) (sink.new ≡ sink.old) }
     // Promise 9.11, part 3
     ensures mismatches { (bytes : List ℕ) → S.left source.old ≡ Some bytes → TellsMismatches bytes result.0 result.1.items }

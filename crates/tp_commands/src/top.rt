@@ -50,7 +50,8 @@ pub fn run<S: Source, K: Sink, D: Disk, M: Member>(
     ensures usage { result.0 ≡ Status.Usage → is_line (said (map (λ w. w.now) words.now)) ≡ false }
     // Promise 18.17: A fault comes only where that object's count rose in the call, with the count;
     //   a line's number is above 0, and a limit before the first line is the log's or the boots'
-    ensures ending { IsEnding (S.fault_count source.old) (S.fault_count source.new) (K.fault_count sink.old) (K.fault_count sink.new) (D.fault_count disk) (D.fault_count result.1) result.0 }
+    ensures ending { IsEnding (S.fault_count source.old) (S.fault_count source.new) (K.fault_count sink.old) (K.fault_count sink.new)
+        (D.fault_count disk) (D.fault_count result.1) result.0 }
     // Promise 18.2 [tp_commands/specs/Commands.antt]: A command gives its own statuses alone, and leaves
     //   of source, sink and disk each as it was for which it has no fault status
     // Promise 18.9 [tp_replay/specs/Making.antt]: `make` writes the schedule of its plan, or a
@@ -69,7 +70,16 @@ pub fn run<S: Source, K: Sink, D: Disk, M: Member>(
     //   logs of its frames, or ends with what stops it
     // Promise 18.16 [tp_commands/specs/Commands.antt]: After Ok of `format` a disk holds a log of
     //   version 2 with no records, and nothing else
-    ensures answers { Answers (may_of M.allowed members.items) (length members.items) (said (map (λ w. w.now) words.now)) (record { status = result.0; left = S.left source.old; unread = S.left source.new; written = K.written sink.old; output = K.written sink.new; told = D.told disk; story = D.told result.1 }) (source.new ≡ source.old) (sink.new ≡ sink.old) (result.1 ≡ disk) }
+    ensures answers { Answers (may_of M.allowed members.items) (length members.items) (said (map (λ w. w.now) words.now))
+        (record {
+          status = result.0;
+          left = S.left source.old;
+          unread = S.left source.new;
+          written = K.written sink.old;
+          output = K.written sink.new;
+          told = D.told disk;
+          story = D.told result.1;
+        }) (source.new ≡ source.old) (sink.new ≡ sink.old) (result.1 ≡ disk) }
     // Promise 18.6: A run of `replay` that ends with Ok has read its source to the end; one that
     //   ends at a line has read at most 12,288 bytes past that line's start, or past its end where
     //   the line is too long or passes the schedule's limit
@@ -86,7 +96,8 @@ pub fn run<S: Source, K: Sink, D: Disk, M: Member>(
     //   closing lines, and of the lines after them no line's end was read
     // Promise 18.5 [tp_replay/specs/Transcribing.antt, clauses transcript answers]: Where the sink
     //   fails or memory runs out, a prefix of the transcript for the answers that were given
-    ensures transcript { map (λ w. w.now) words.now ≡ replay_words → (bytes : List ℕ) → S.left source.old ≡ Some bytes → Transcribes (may_of M.allowed members.items) (length members.items) bytes result.0 (S.left source.new) (K.written sink.old) (K.written sink.new) }
+    ensures transcript { map (λ w. w.now) words.now ≡ replay_words → (bytes : List ℕ) → S.left source.old ≡ Some bytes
+        → Transcribes (may_of M.allowed members.items) (length members.items) bytes result.0 (S.left source.new) (K.written sink.old) (K.written sink.new) }
     // Promise 18.19, part 3
     ensures one { AreCertain (may_of M.allowed members.items) → (bytes : List ℕ) → IsOne (may_of M.allowed members.items) (length members.items) bytes }
     // Promise 18.8: The world of each transcript keeps all promises, the headline with them, also
@@ -95,7 +106,10 @@ pub fn run<S: Source, K: Sink, D: Disk, M: Member>(
     // Promise 18.7: A schedule whose transcript comes to its end, whatever the members answer of
     //   what they may, is replayed to its end where neither source nor sink fails and memory does
     //   not run out
-    ensures complete { map (λ w. w.now) words.now ≡ replay_words → (bytes : List ℕ) → S.left source.old ≡ Some bytes → IsComplete (may_of M.allowed members.items) (length members.items) bytes → ¬ (HasRisen (S.fault_count source.old) (S.fault_count source.new)) → ¬ (HasRisen (K.fault_count sink.old) (K.fault_count sink.new)) → (result.0 ≡ Status.Ok) ⊎ (result.0 ≡ Status.NoMemory) }
+    ensures complete { map (λ w. w.now) words.now ≡ replay_words → (bytes : List ℕ) → S.left source.old ≡ Some bytes
+        → IsComplete (may_of M.allowed members.items) (length members.items) bytes
+        → ¬ (HasRisen (S.fault_count source.old) (S.fault_count source.new))
+        → ¬ (HasRisen (K.fault_count sink.old) (K.fault_count sink.new)) → (result.0 ≡ Status.Ok) ⊎ (result.0 ≡ Status.NoMemory) }
 {
     match read(alloc, words) {
         Ok(command) => run_command(alloc, command, source, sink, disk, members),
@@ -112,8 +126,18 @@ fn run_command<S: Source, K: Sink, D: Disk, M: Member>(
     disk: D,
     members: Vec<M>,
 ) -> (Status, D)
-    ensures ending { IsEnding (S.fault_count source.old) (S.fault_count source.new) (K.fault_count sink.old) (K.fault_count sink.new) (D.fault_count disk) (D.fault_count result.1) result.0 }
-    ensures runs { Runs (may_of M.allowed members.items) (length members.items) command (record { status = result.0; left = S.left source.old; unread = S.left source.new; written = K.written sink.old; output = K.written sink.new; told = D.told disk; story = D.told result.1 }) (source.new ≡ source.old) (sink.new ≡ sink.old) (result.1 ≡ disk) }
+    ensures ending { IsEnding (S.fault_count source.old) (S.fault_count source.new) (K.fault_count sink.old) (K.fault_count sink.new)
+        (D.fault_count disk) (D.fault_count result.1) result.0 }
+    ensures runs { Runs (may_of M.allowed members.items) (length members.items) command
+        (record {
+          status = result.0;
+          left = S.left source.old;
+          unread = S.left source.new;
+          written = K.written sink.old;
+          output = K.written sink.new;
+          told = D.told disk;
+          story = D.told result.1;
+        }) (source.new ≡ source.old) (sink.new ≡ sink.old) (result.1 ≡ disk) }
 {
     let mut disk = disk;
     match command {

@@ -20,8 +20,10 @@ pub fn serve_face<S: Source, K: Sink, D: Disk>(
     sink: &mut K,
     disk: D,
 ) -> (Status, D)
-    ensures ends { Ends (exits (Command.Tx name)) (S.fault_count source.old) (S.fault_count source.new) (K.fault_count sink.old) (K.fault_count sink.new) (D.fault_count disk) (D.fault_count result.1) result.0 }
-    ensures serves { ServesFace name result.0 (D.told disk) (D.told result.1) (S.left source.old) (S.left source.new) (K.written sink.old) (K.written sink.new) (sink.new ≡ sink.old) }
+    ensures ends { Ends (exits (Command.Tx name)) (S.fault_count source.old) (S.fault_count source.new) (K.fault_count sink.old)
+        (K.fault_count sink.new) (D.fault_count disk) (D.fault_count result.1) result.0 }
+    ensures serves { ServesFace name result.0 (D.told disk) (D.told result.1) (S.left source.old) (S.left source.new) (K.written sink.old)
+        (K.written sink.new) (sink.new ≡ sink.old) }
 {
     let (disk, served) = transact(alloc, name, source, sink, disk);
     (Status::of_answer(served), disk)

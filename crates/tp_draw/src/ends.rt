@@ -27,7 +27,8 @@ pub(crate) fn no_ends(alloc: Global) -> Result<Vec<End>, NoMemory>
 pub(crate) fn note_ends(ends: &mut Vec<End>, lines: &[OutLine])
     requires { length ends.old.items ≡ 65536 }
     ensures many { length ends.new.items ≡ 65536 }
-    ensures ends { (k : ℕ) → k < 65536 → slice_index_or ends.new.items k End.Never ≡ or_else (slice_index_or ends.old.items k End.Never) (end_in lines.now k 0 lines.now) }
+    ensures ends { (k : ℕ) → k < 65536
+        → slice_index_or ends.new.items k End.Never ≡ or_else (slice_index_or ends.old.items k End.Never) (end_in lines.now k 0 lines.now) }
 {
     for (row, line) in lines.iter().enumerate() {
         if let Some((frame, end)) = ended_at(lines, row, line) {
@@ -83,7 +84,8 @@ pub(crate) fn is_in_row(row: usize, end: End) -> bool
 fn note(ends: &mut Vec<End>, frame: u16, end: End)
     requires { length ends.old.items ≡ 65536 }
     ensures many { length ends.new.items ≡ 65536 }
-    ensures ends { (k : ℕ) → k < 65536 → slice_index_or ends.new.items k End.Never ≡ or_else (slice_index_or ends.old.items k End.Never) (end_at k (Some (frame, end))) }
+    ensures ends { (k : ℕ) → k < 65536
+        → slice_index_or ends.new.items k End.Never ≡ or_else (slice_index_or ends.old.items k End.Never) (end_at k (Some (frame, end))) }
 {
     let at = usize::from(frame);
     if let End::Never = ends[at] {

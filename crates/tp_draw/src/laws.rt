@@ -44,7 +44,8 @@ pub fn an_arrow_ends_where_its_frame_does()
 /// Each take of a frame that was sent ends one arrow. Where it is the first end of the frame, that is the arrow of the
 /// send; else the take has one of its own, from the row of the send.
 pub fn each_take_ends_one_arrow()
-    ensures { (os : List OutLine) (r k : ℕ) (f : Flight) → item os r ≡ Some (OutLine.Take k) → flight_of os k ≡ Some f → item (shapes os) r ≡ Some (shape_of_take os r k f) }
+    ensures { (os : List OutLine) (r k : ℕ) (f : Flight) → item os r ≡ Some (OutLine.Take k) → flight_of os k ≡ Some f
+        → item (shapes os) r ≡ Some (shape_of_take os r k f) }
 {}
 
 // Promise 21.12 [tp_draw/specs/Laws.antt]: At each line the band on a lane is what the last record
@@ -53,7 +54,8 @@ pub fn each_take_ends_one_arrow()
 /// After any number of lines the band of a lane is what the last record of its node says, and there is a gap where its
 /// site is down.
 pub fn a_band_is_what_the_records_say()
-    ensures { (os : List OutLine) (count place : ℕ) (t : Track) → item (tracks_after (take count os) (first_tracks os)) place ≡ Some t → IsTrack (take count os) (item (lanes_of os) place) t }
+    ensures { (os : List OutLine) (count place : ℕ) (t : Track) → item (tracks_after (take count os) (first_tracks os)) place ≡ Some t
+        → IsTrack (take count os) (item (lanes_of os) place) t }
 {}
 
 // Promise 21.5 [tp_draw/specs/Laws.antt]: Each node that a transcript names has one lane
@@ -66,7 +68,8 @@ pub fn each_node_has_one_lane()
 //   each of them whose site the transcript tells keeps its one lane, and no other node has a lane
 /// In a picture of chosen nodes each of them whose site the transcript tells has one lane, and no other node has any.
 pub fn a_chosen_node_keeps_its_lane()
-    ensures kept { (ns : List ℕ) (os : List OutLine) (n : ℕ) → is_among n ns ≡ true → is_placed n os ≡ true → HasOneLane n (lanes_of (chosen ns os)) (place_of (chosen ns os) n) }
+    ensures kept { (ns : List ℕ) (os : List OutLine) (n : ℕ) → is_among n ns ≡ true → is_placed n os ≡ true
+        → HasOneLane n (lanes_of (chosen ns os)) (place_of (chosen ns os) n) }
     ensures others { (ns : List ℕ) (os : List OutLine) (n : ℕ) → 0 < length ns → is_among n ns ≡ false → lanes_with n (lanes_of (chosen ns os)) ≡ 0 }
 {}
 

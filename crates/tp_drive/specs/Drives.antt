@@ -30,7 +30,8 @@ opening_on j name = record { site = name; version = version_of j.wide; records =
 
 -- The outputs are those of one thread, event by event. After the boot the log has one record for each receipt, in order and at its
 -- place, and these records are an interleaving of the records of each lane's own events. With them the log is within its limit.
-pub record IsDriven (o : Opening) (lanes : ℕ) (events : List Given) (outs : List (List Output)) (receipts : List Receipt) (wide : Bool) (list : List LogRec) : Type 0 where
+pub record IsDriven (o : Opening) (lanes : ℕ) (events : List Given) (outs : List (List Output)) (receipts : List Receipt) (wide : Bool)
+    (list : List LogRec) : Type 0 where
   pub one_thread : outs ≡ (node_run o events).outputs
   pub records : list ≡ booted o ++ recs receipts
   pub places : placed wide list ≡ placed wide (booted o) ++ receipts
@@ -83,7 +84,8 @@ Fails standing old name lanes events new fault = Stops (opening_on old name) lan
 
 -- where the boot was refused, it has a text
 abbrev pub HasBootText : {D : Type 0} → (Kept D → Standing) → Kept D → List ℕ → Kept D → DriveFault → Type 0
-HasBootText {D} standing old name new (DriveFault.Start fault) = HasTextIfStarted {A = Site (Kept D)} (standing old).wide (LogRec.Boot (boot_of (opening_of (standing old) name))) (Err (new, fault))
+HasBootText {D} standing old name new (DriveFault.Start fault) = HasTextIfStarted {A = Site (Kept D)} (standing old).wide
+    (LogRec.Boot (boot_of (opening_of (standing old) name))) (Err (new, fault))
 HasBootText standing old name new (DriveFault.LogDiffers place receipt kept) = Unit {0}
 HasBootText standing old name new (DriveFault.DiskFault faults) = Unit {0}
 HasBootText standing old name new (DriveFault.Full size event) = Unit {0}
@@ -113,5 +115,6 @@ abbrev pub IsCause : List (Option Stop) → Option ℕ → Option Unfit → Driv
 IsCause stops shut unfit (DriveFault.Start fault) = ⊥
 IsCause stops shut unfit (DriveFault.LogDiffers place receipt kept) = ⊥
 IsCause stops shut unfit (DriveFault.DiskFault faults) = shut ≡ Some faults
-IsCause stops shut unfit (DriveFault.Full size event) = (shut ≡ None) × IsLeastStop stops event × IfSome unfit (λ u. (size ≡ u.size) × (u.body ≤ 65535)) × (is_some unfit ≡ true)
+IsCause stops shut unfit (DriveFault.Full size event) = (shut ≡ None) × IsLeastStop stops event
+    × IfSome unfit (λ u. (size ≡ u.size) × (u.body ≤ 65535)) × (is_some unfit ≡ true)
 IsCause stops shut unfit DriveFault.NoMemory = Unit {0}

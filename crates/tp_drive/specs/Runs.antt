@@ -24,7 +24,8 @@ pub record IsRun (o : Opening) (lanes own : ℕ) (events : List Given) (outs : L
   pub answers : outs ≡ (node_run o (lane (take forced.met events) own lanes)).outputs
 
 -- so of each lane
-pub record AreRun (o : Opening) (lanes : ℕ) (events : List Given) (outs : List (List (List Output))) (queues : List (List Receipt)) (stops : List (Option Stop)) : Type 0 where
+pub record AreRun (o : Opening) (lanes : ℕ) (events : List Given) (outs : List (List (List Output))) (queues : List (List Receipt))
+    (stops : List (Option Stop)) : Type 0 where
   pub outs_counted : length outs ≡ lanes
   pub queues_counted : length queues ≡ lanes
   pub stops_counted : length stops ≡ lanes

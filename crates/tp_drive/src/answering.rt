@@ -34,9 +34,11 @@ pub fn answer<'a, D: Disk, R: Wait + Sync, L: Begun, M: Ledger>(
     event: &Event,
 ) -> Result<Outputs, Cause>
     requires open { site.old.shut ≡ None }
-    ensures done { IfOk result (λ outs. (mine : ℕ → Bool) (gs : List Given) → mine (node_of event.now) ≡ true → IsAt (share_standing L.stood L.wide) mine L.opening gs site.old
+    ensures done { IfOk result (λ outs. (mine : ℕ → Bool) (gs : List Given) → mine (node_of event.now) ≡ true
+        → IsAt (share_standing L.stood L.wide) mine L.opening gs site.old
         → IsAt (share_standing L.stood L.wide) mine L.opening (gs ++ event.now ∷ []) site.new × (outs ≡ outputs_after L.opening gs event.now)) }
-    ensures stopped { OnErr result ((mine : ℕ → Bool) (gs : List Given) → mine (node_of event.now) ≡ true → IsAt (share_standing L.stood L.wide) mine L.opening gs site.old
+    ensures stopped { OnErr result
+        ((mine : ℕ → Bool) (gs : List Given) → mine (node_of event.now) ≡ true → IsAt (share_standing L.stood L.wide) mine L.opening gs site.old
         → IsAt (share_standing L.stood L.wide) mine L.opening gs site.new) }
     ensures backed { IfErr result (λ cause. IsBackedBy cause site.new.keeper) }
     ensures open { OnOk result (site.new.shut ≡ None) }

@@ -115,7 +115,8 @@ pub fn close_lanes<'a, D: Disk, R: Wait + Sync, L: Begun, M: Ledger>(
 )
     requires parts { All HasOnePart lanes.items }
     requires empty { (left.old.outs.items ≡ []) × (left.old.queues.items ≡ []) × (left.old.stops.items ≡ []) }
-    requires room { (vec_len lanes ≤ vec_capacity left.old.outs) × (vec_len lanes ≤ vec_capacity left.old.queues) × (vec_len lanes ≤ vec_capacity left.old.stops) }
+    requires room { (vec_len lanes ≤ vec_capacity left.old.outs) × (vec_len lanes ≤ vec_capacity left.old.queues)
+        × (vec_len lanes ≤ vec_capacity left.old.stops) }
     requires slips { (slips.old.items ≡ []) × (vec_len lanes ≤ vec_capacity slips.old) }
     ensures outs { map (λ o. o.items) left.new.outs.items ≡ map outs_of lanes.entry.items }
     ensures receipts { left.new.queues.items ≡ map receipts_of lanes.entry.items }

@@ -71,8 +71,11 @@ impl<'a, D: Disk, R: Wait + Sync, L: Begun, M: Ledger> Lane<'a, D, R, L, M> {
         gate: &G,
     ) -> Result<(), Cause>
         requires open { self.old.site.shut ≡ None }
-        ensures done { OnOk result ((mine : ℕ → Bool) (gs : List Given) → mine (node_of event.now) ≡ true → Did L.stood L.wide L.opening mine self.old gs → Did L.stood L.wide L.opening mine self.new (gs ++ event.now ∷ [])) }
-        ensures stopped { OnErr result ((mine : ℕ → Bool) (gs : List Given) → mine (node_of event.now) ≡ true → Did L.stood L.wide L.opening mine self.old gs → Did L.stood L.wide L.opening mine self.new gs) }
+        ensures done { OnOk result ((mine : ℕ → Bool) (gs : List Given) → mine (node_of event.now) ≡ true
+            → Did L.stood L.wide L.opening mine self.old gs → Did L.stood L.wide L.opening mine self.new (gs ++ event.now ∷ [])) }
+        ensures stopped { OnErr result
+            ((mine : ℕ → Bool) (gs : List Given) → mine (node_of event.now) ≡ true → Did L.stood L.wide L.opening mine self.old gs
+            → Did L.stood L.wide L.opening mine self.new gs) }
         ensures backed { IfErr result (λ cause. IsBackedBy cause self.new.site.keeper) }
         ensures open { OnOk result (self.new.site.shut ≡ None) }
         ensures stop { self.new.stop ≡ self.old.stop }

@@ -77,7 +77,8 @@ fn open_and_run<
     ensures few { vec_len lanes.new ≤ count }
     ensures all { OnOk result (vec_len lanes.new ≡ count) }
     ensures idle { OnErr result (sum_by forced_by lanes.new.items ≡ 0) }
-    ensures run { OnOk result (AreRun L.opening count events.now (map outs_of lanes.new.items) (map receipts_of lanes.new.items) (map stop_of lanes.new.items)) }
+    ensures run { OnOk result (AreRun L.opening count events.now (map outs_of lanes.new.items) (map receipts_of lanes.new.items)
+        (map stop_of lanes.new.items)) }
     ensures stopped { OnOk result ((event : ℕ) → IsLeastStop (map stop_of lanes.new.items) event → sum_by stake_left lanes.new.items < count) }
 {
     open_lanes(rt, alloc, log, name, boot, part, stake, lanes, count)?;

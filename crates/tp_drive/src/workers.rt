@@ -35,7 +35,8 @@ pub fn run_lanes<
         count,
         &|own, lane|
             requires { (0 < count) × IsFresh L.stood L.wide L.opening count own lane.now }
-            ensures { Worked L.stood L.wide L.opening count own events.entry.now lane.exit.now × (lane.exit.now.site.keeper.of ≡ lane.entry.now.site.keeper.of) }
+            ensures { Worked L.stood L.wide L.opening count own events.entry.now lane.exit.now
+                × (lane.exit.now.site.keeper.of ≡ lane.entry.now.site.keeper.of) }
         { lane.work(alloc, events, count, own, gate) },
     );
 }

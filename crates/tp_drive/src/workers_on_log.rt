@@ -48,8 +48,10 @@ pub fn drive<R: Threads + Wait + Sync, D: Disk + Send, G: Gate + Sync>(
     //   and the first of the others
     // Promise 6.9 [tp_drive/specs/Drives.antt, clauses images images_left open]: The records that
     //   the site started on follow one another, the log stays of its version, and on Ok it is open
-    ensures images { IfOk result (λ d. LeavesBooted (λ j. standing_of j (D.fault_count j.disk) (D.told j.disk) (D.fuse j.disk)) journal name (D.told d.journal.disk) d.journal) }
-    ensures images_left { IfErr result (λ e. HasStarted e.1 → LeavesBooted (λ j. standing_of j (D.fault_count j.disk) (D.told j.disk) (D.fuse j.disk)) journal name (D.told e.0.disk) e.0) }
+    ensures images { IfOk result (λ d. LeavesBooted (λ j. standing_of j (D.fault_count j.disk) (D.told j.disk) (D.fuse j.disk)) journal name
+        (D.told d.journal.disk) d.journal) }
+    ensures images_left { IfErr result
+        (λ e. HasStarted e.1 → LeavesBooted (λ j. standing_of j (D.fault_count j.disk) (D.told j.disk) (D.fuse j.disk)) journal name (D.told e.0.disk) e.0) }
     // Promise 6.4: A site that does not start ends the drive with its fault, as `Site::start` says
     // Promise 6.5: `DiskFault` comes only of a log that is shut, whose disk failed in the call;
     //   after the boot the journal's list has an interleaving of prefixes of the lanes' records
@@ -60,7 +62,8 @@ pub fn drive<R: Threads + Wait + Sync, D: Disk + Send, G: Gate + Sync>(
     //   and the place that this has in the journal's list
     // Promise 6.10: Where memory runs out after the boot, the journal's list has after it an
     //   interleaving of prefixes of the lanes' records
-    ensures fails { IfErr result (λ e. Fails (λ j. standing_of j (D.fault_count j.disk) (D.told j.disk) (D.fuse j.disk)) journal name workers events.now e.0 e.1) }
+    ensures fails { IfErr result (λ e. Fails (λ j. standing_of j (D.fault_count j.disk) (D.told j.disk) (D.fuse j.disk)) journal name
+        workers events.now e.0 e.1) }
     ensures text { IfErr result (λ e. HasBootText (λ j. standing_of j (D.fault_count j.disk) (D.told j.disk) (D.fuse j.disk)) journal name e.0 e.1) }
 {
     let site = match Site::start(alloc, journal, name) {
@@ -97,7 +100,8 @@ fn on_log<
 ) -> Result<Driven<D>, (Journal<D>, DriveFault)>
     requires open { journal.shut ≡ None }
     requires count { (1 ≤ count) × (count ≤ 16) }
-    requires stood { (L.stood ≡ placed journal.wide journal.list) × (L.faults ≡ D.fault_count journal.disk) × (L.wide ≡ journal.wide) × (L.shares ≡ count) × (L.story ≡ D.told journal.disk) }
+    requires stood { (L.stood ≡ placed journal.wide journal.list) × (L.faults ≡ D.fault_count journal.disk) × (L.wide ≡ journal.wide)
+        × (L.shares ≡ count) × (L.story ≡ D.told journal.disk) }
     requires begun { IsBegun L.stood L.wide L.opening name boot }
     requires first { (first.name ≡ L.name) × (first.parts ≡ L.parts) × (first.parts ≡ count) }
     requires second { (second.name ≡ M.name) × (second.parts ≡ M.parts) × (second.parts ≡ count) }

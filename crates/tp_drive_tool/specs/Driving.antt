@@ -82,7 +82,8 @@ pub record HasDriven (name : List ℕ) (workers : ℕ) (events : List Given) (st
 -- ---- not all events
 
 -- some lanes stopped, and after the boot the log has what the lanes forced before
-pub record HasPart (name : List ℕ) (workers : ℕ) (events : List Given) (story : Story) (new : Option Story) (shut : Option ℕ) (stops : List (Option LaneStop)) (list : List LogRec) : Type 0 where
+pub record HasPart (name : List ℕ) (workers : ℕ) (events : List Given) (story : Story) (new : Option Story) (shut : Option ℕ)
+    (stops : List (Option LaneStop)) (list : List LogRec) : Type 0 where
   pub o : Opening
   pub begins : BeginsOn name story o
   pub part : IsPartDriven o workers events stops list

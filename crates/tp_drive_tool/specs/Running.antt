@@ -135,7 +135,8 @@ EndsWell (Status.LogDiffers place receipt kept) = ⊥
 -- So a run ends, where its words are a command line and nothing outside fails: its input and its log are such, and no count rises.
 abbrev pub Completes : Option SaidDrive → Ran → ℕ → ℕ → ℕ → ℕ → ℕ → ℕ → Status → Type 0
 Completes said r read_old read_new write_old write_new disk_old disk_new status =
-    is_drive said ≡ true → ((d : Drive) → AsksDrive said d → IsProvided d r) → (HasRisen read_old read_new → ⊥) → (HasRisen write_old write_new → ⊥) → (HasRisen disk_old disk_new → ⊥) → EndsWell status
+    is_drive said ≡ true → ((d : Drive) → AsksDrive said d → IsProvided d r) → (HasRisen read_old read_new → ⊥)
+    → (HasRisen write_old write_new → ⊥) → (HasRisen disk_old disk_new → ⊥) → EndsWell status
 
 -- ---- causes
 

@@ -27,7 +27,8 @@ pub(crate) fn drive_on<R: Threads + Wait + Sync, D: Disk + Send, G: Gate + Sync>
 ) -> (D, Result<OutputsByEvent, Status>)
     requires { (1 ≤ workers) × (workers ≤ 16) }
     ensures driven { IfOk result.1 (λ outs. (s : Story) → D.told disk ≡ Some s → IsFile (seen s) → HasDriven name workers events.now s (D.told result.0) outs) }
-    ensures stops { IfErr result.1 (λ status. (s : Story) → D.told disk ≡ Some s → IsFile (seen s) → NotDriven name workers events.now s (D.told result.0) status) }
+    ensures stops { IfErr result.1
+        (λ status. (s : Story) → D.told disk ≡ Some s → IsFile (seen s) → NotDriven name workers events.now s (D.told result.0) status) }
     ensures cause { IfErr result.1 (IsDriveCause (D.fault_count disk) (D.fault_count result.0)) }
 {
     let journal = match Journal::start(alloc, disk) {

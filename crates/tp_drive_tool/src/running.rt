@@ -54,14 +54,32 @@ pub fn run_drive<R: Threads + Wait + Sync, S: Source, K: Sink, D: Disk + Send, G
     //   exactly where no boot number is left or the boot has no room
     // Promise 7.8: A limit of the log in a frame and a fault of the disk come as `drive` says, with
     //   the log that is then left; `LogDiffers` never comes
-    ensures answers { Answers (drive_said (map (λ w. w.now) words.now)) (record { told = D.told disk; story = D.told result.1; left = S.left source.old; unread = S.left source.new; written = K.written sink.old; output = K.written sink.new }) result.0 (source.new ≡ source.old) (sink.new ≡ sink.old) (result.1 ≡ disk) }
+    ensures answers { Answers (drive_said (map (λ w. w.now) words.now))
+        (record {
+          told = D.told disk;
+          story = D.told result.1;
+          left = S.left source.old;
+          unread = S.left source.new;
+          written = K.written sink.old;
+          output = K.written sink.new;
+        }) result.0 (source.new ≡ source.old) (sink.new ≡ sink.old) (result.1 ≡ disk) }
     ensures silent { IsSilent result.0 → sink.new ≡ sink.old }
     // Promise 7.9: A fault comes only where that object's count rose in the call
-    ensures ending { IsEnding (S.fault_count source.old) (S.fault_count source.new) (K.fault_count sink.old) (K.fault_count sink.new) (D.fault_count disk) (D.fault_count result.1) result.0 }
+    ensures ending { IsEnding (S.fault_count source.old) (S.fault_count source.new) (K.fault_count sink.old) (K.fault_count sink.new)
+        (D.fault_count disk) (D.fault_count result.1) result.0 }
     // Promise 7.10: Where no count rises, the words are a command line, the input is good to its
     //   end and within the limits, and the log is in order, leaves a boot number, and has room for
     //   all records and one more of the greatest length, a run ends with Ok; or memory runs out
-    ensures complete { Completes (drive_said (map (λ w. w.now) words.now)) (record { told = D.told disk; story = D.told result.1; left = S.left source.old; unread = S.left source.new; written = K.written sink.old; output = K.written sink.new }) (S.fault_count source.old) (S.fault_count source.new) (K.fault_count sink.old) (K.fault_count sink.new) (D.fault_count disk) (D.fault_count result.1) result.0 }
+    ensures complete { Completes (drive_said (map (λ w. w.now) words.now))
+        (record {
+          told = D.told disk;
+          story = D.told result.1;
+          left = S.left source.old;
+          unread = S.left source.new;
+          written = K.written sink.old;
+          output = K.written sink.new;
+        }) (S.fault_count source.old) (S.fault_count source.new)
+        (K.fault_count sink.old) (K.fault_count sink.new) (D.fault_count disk) (D.fault_count result.1) result.0 }
 {
     match read_drive(alloc, words) {
         Ok(asked) => run_asked(rt, alloc, asked, source, sink, disk, gate),
@@ -80,9 +98,17 @@ fn run_asked<R: Threads + Wait + Sync, S: Source, K: Sink, D: Disk + Send, G: Ga
     disk: D,
     gate: &G,
 ) -> (Status, D)
-    ensures does { Does asked (record { told = D.told disk; story = D.told result.1; left = S.left source.old; unread = S.left source.new; written = K.written sink.old; output = K.written sink.new }) (result.1 ≡ disk) result.0 }
+    ensures does { Does asked (record {
+      told = D.told disk;
+      story = D.told result.1;
+      left = S.left source.old;
+      unread = S.left source.new;
+      written = K.written sink.old;
+      output = K.written sink.new;
+    }) (result.1 ≡ disk) result.0 }
     ensures silent { IsSilent result.0 → sink.new ≡ sink.old }
-    ensures ending { IsEnding (S.fault_count source.old) (S.fault_count source.new) (K.fault_count sink.old) (K.fault_count sink.new) (D.fault_count disk) (D.fault_count result.1) result.0 }
+    ensures ending { IsEnding (S.fault_count source.old) (S.fault_count source.new) (K.fault_count sink.old) (K.fault_count sink.new)
+        (D.fault_count disk) (D.fault_count result.1) result.0 }
 {
     let events = match read_events(alloc, source) {
         Ok(events) => events,

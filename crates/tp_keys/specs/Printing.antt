@@ -44,9 +44,12 @@ PrintsSome D old new before after =
 abbrev pub RefusesKeys : (D : Type 0) → Option Story → Option Story → ℕ → ℕ → Option (List ℕ) → Option (List ℕ) → ℕ → ℕ → Stop → Type 0
 RefusesKeys D old new disk_before disk_after before after sink_before sink_after (Stop.BadInput at why) = ⊥
 RefusesKeys D old new disk_before disk_after before after sink_before sink_after (Stop.Limit what at) = ⊥
-RefusesKeys D old new disk_before disk_after before after sink_before sink_after (Stop.Foreign at) = RefusesOpen old new disk_before disk_after (start.Foreign at) × (after ≡ before)
+RefusesKeys D old new disk_before disk_after before after sink_before sink_after (Stop.Foreign at) = RefusesOpen old new disk_before
+    disk_after (start.Foreign at) × (after ≡ before)
 RefusesKeys D old new disk_before disk_after before after sink_before sink_after (Stop.ReadFault faults) = ⊥
-RefusesKeys D old new disk_before disk_after before after sink_before sink_after (Stop.WriteFault faults) = PrintsSome D old new before after × IsFaultOf faults sink_before sink_after
-RefusesKeys D old new disk_before disk_after before after sink_before sink_after (Stop.DiskFault faults) = RefusesOpen old new disk_before disk_after (start.DiskFault faults) × (after ≡ before)
+RefusesKeys D old new disk_before disk_after before after sink_before sink_after (Stop.WriteFault faults) = PrintsSome D old new before
+    after × IsFaultOf faults sink_before sink_after
+RefusesKeys D old new disk_before disk_after before after sink_before sink_after (Stop.DiskFault faults) = RefusesOpen old new disk_before
+    disk_after (start.DiskFault faults) × (after ≡ before)
 RefusesKeys D old new disk_before disk_after before after sink_before sink_after Stop.NoMemory =
     (RefusesOpen old new disk_before disk_after start.NoMemory × (after ≡ before)) ⊎ PrintsSome D old new before after

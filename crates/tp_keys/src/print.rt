@@ -32,8 +32,10 @@ fn write_long<K: Sink>(sink: &mut K, text: &mut Octets) -> Result<(), Stop>
 /// Writes a line for each key of a store, in ascending order of bytes.
 pub fn print<D: Disk, K: Sink>(alloc: Global, bound: &Bound<D>, sink: &mut K) -> Result<(), Stop>
     ensures kept { K.fault_count sink.old ≤ K.fault_count sink.new }
-    ensures whole { OnOk result ((before : List ℕ) → K.written sink.old ≡ Some before → K.written sink.new ≡ Some (before ++ key_lines bound.now.store.content)) }
-    ensures prefix { OnErr result ((before : List ℕ) → K.written sink.old ≡ Some before → WritesPrefix before (key_lines bound.now.store.content) (K.written sink.new)) }
+    ensures whole { OnOk result ((before : List ℕ) → K.written sink.old ≡ Some before
+        → K.written sink.new ≡ Some (before ++ key_lines bound.now.store.content)) }
+    ensures prefix { OnErr result ((before : List ℕ) → K.written sink.old ≡ Some before
+        → WritesPrefix before (key_lines bound.now.store.content) (K.written sink.new)) }
     ensures fault { IfErr result (IsPrintStop (K.fault_count sink.old) (K.fault_count sink.new)) }
 {
     let mut text = Octets::new(alloc);

@@ -55,8 +55,10 @@ fn write_found<J: Keeper, K: Sink>(
     requires { (k : ℕ) → k < length found.now → slice_index found.now k < length (J.standing log.now).told }
     ensures kept { K.fault_count sink.old ≤ K.fault_count sink.new }
     ensures stops { IfErr result (IsSinkStop (K.fault_count sink.old) (K.fault_count sink.new)) }
-    ensures ok { OnOk result ((before : List ℕ) → K.written sink.old ≡ Some before → K.written sink.new ≡ Some (before ++ placed_texts (picked (as_placed (J.standing log.now).told) found.now))) }
-    ensures err { OnErr result ((before : List ℕ) → K.written sink.old ≡ Some before → WritesPrefix before (placed_texts (picked (as_placed (J.standing log.now).told) found.now)) (K.written sink.new)) }
+    ensures ok { OnOk result ((before : List ℕ) → K.written sink.old ≡ Some before
+        → K.written sink.new ≡ Some (before ++ placed_texts (picked (as_placed (J.standing log.now).told) found.now))) }
+    ensures err { OnErr result ((before : List ℕ) → K.written sink.old ≡ Some before
+        → WritesPrefix before (placed_texts (picked (as_placed (J.standing log.now).told) found.now)) (K.written sink.new)) }
 {
     let mut out = Octets::new(alloc);
     for i in found {
@@ -74,8 +76,10 @@ fn check_log<D: Disk, K: Sink>(
     ensures kept { K.fault_count sink.old ≤ K.fault_count sink.new }
     ensures stops { IfErr result (IsSinkStop (K.fault_count sink.old) (K.fault_count sink.new)) }
     ensures count { IfOk result (λ n. n ≡ length (finds (as_placed (placed journal.now.wide journal.now.list)))) }
-    ensures ok { OnOk result ((before : List ℕ) → K.written sink.old ≡ Some before → K.written sink.new ≡ Some (before ++ finding_texts (as_placed (placed journal.now.wide journal.now.list)))) }
-    ensures err { OnErr result ((before : List ℕ) → K.written sink.old ≡ Some before → WritesPrefix before (finding_texts (as_placed (placed journal.now.wide journal.now.list))) (K.written sink.new)) }
+    ensures ok { OnOk result ((before : List ℕ) → K.written sink.old ≡ Some before
+        → K.written sink.new ≡ Some (before ++ finding_texts (as_placed (placed journal.now.wide journal.now.list)))) }
+    ensures err { OnErr result ((before : List ℕ) → K.written sink.old ≡ Some before
+        → WritesPrefix before (finding_texts (as_placed (placed journal.now.wide journal.now.list))) (K.written sink.new)) }
 {
     let found = find(alloc, journal.list())?;
     write_found(alloc, journal, found.as_slice(), sink)?;
@@ -87,13 +91,15 @@ pub fn check<D: Disk, K: Sink>(alloc: Global, disk: D, sink: &mut K) -> (D, Resu
     // Promise 4.4: `check` writes each Damage that is its key's last record, to the byte, and
     //   answers their number
     // Promise 4.6, part 2
-    ensures checks { IfOk result.1 (λ n. (s : Story) → D.told disk ≡ Some s → IsFile (seen s) → Checks (seen s) n (K.written sink.old) (K.written sink.new) (D.told result.0)) }
+    ensures checks { IfOk result.1
+        (λ n. (s : Story) → D.told disk ≡ Some s → IsFile (seen s) → Checks (seen s) n (K.written sink.old) (K.written sink.new) (D.told result.0)) }
     // Promise 4.2, part 2
     ensures stopped { IfErr result.1 (λ stop. (s : Story) → D.told disk ≡ Some s → IsFile (seen s)
         → StopsShow (seen s) finding_texts (K.written sink.old) (K.written sink.new) (D.told result.0) stop) }
     // A crash at any moment from the first sync on leaves a log of the records that stood.
     // Promise 4.9, part 2
-    ensures moments { (s : Story) (rs : List TheRecord) → D.told disk ≡ Some s → length (seen s) < 2 ^ 64 → IsLog (seen s) rs → HoldsThroughout (λ c. IsLog c rs) s (D.told result.0) }
+    ensures moments { (s : Story) (rs : List TheRecord) → D.told disk ≡ Some s → length (seen s) < 2 ^ 64 → IsLog (seen s) rs
+        → HoldsThroughout (λ c. IsLog c rs) s (D.told result.0) }
     // Promise 4.10, part 2
     ensures stops { IfErr result.1 (IsShowStop (D.fault_count disk) (D.fault_count result.0) (K.fault_count sink.old) (K.fault_count sink.new)) }
     // Promise 4.5, part 2 [clauses foreign disk_fault stopped]

@@ -32,10 +32,12 @@ pub fn open_log<D: Disk>(alloc: Global, disk: D) -> Result<Journal<D>, (D, Stop)
     ensures counted { IfOk result (λ j. D.fault_count disk ≤ D.fault_count j.disk) }
     ensures texts { IfOk result (λ j. AllByRecursion (HasText j.wide) j.list) }
     ensures opens { IfOk result (λ j. (s : Story) → D.told disk ≡ Some s → IsFile (seen s) → Opens (seen s) j.wide j.list (D.told j.disk)) }
-    ensures moments { IfOk result (λ j. (s : Story) (rs : List LogRec) → D.told disk ≡ Some s → length (seen s) < 2 ^ 64 → IsLog (seen s) rs → LeavesLog s rs j.list (D.told j.disk)) }
+    ensures moments { IfOk result (λ j. (s : Story) (rs : List LogRec) → D.told disk ≡ Some s → length (seen s) < 2 ^ 64 → IsLog (seen s) rs
+        → LeavesLog s rs j.list (D.told j.disk)) }
     ensures refused { IfErr result (λ e. (s : Story) → D.told disk ≡ Some s → IsFile (seen s) → StopsOpening (seen s) (D.told e.0) e.1) }
     ensures stops { IfErr result (λ e. IsDiskStop (D.fault_count disk) (D.fault_count e.0) e.1) }
-    ensures left { IfErr result (λ e. (s : Story) (rs : List LogRec) → D.told disk ≡ Some s → length (seen s) < 2 ^ 64 → IsLog (seen s) rs → HoldsThroughout (λ c. IsLog c rs) s (D.told e.0)) }
+    ensures left { IfErr result (λ e. (s : Story) (rs : List LogRec) → D.told disk ≡ Some s → length (seen s) < 2 ^ 64 → IsLog (seen s) rs
+        → HoldsThroughout (λ c. IsLog c rs) s (D.told e.0)) }
 {
     let journal = match Journal::start(alloc, disk) {
         Ok(journal) => journal,

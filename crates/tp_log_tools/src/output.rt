@@ -31,7 +31,8 @@ fn write_line(alloc: Global, place: u64, rec: &LogRec, out: &mut Octets) -> Resu
 fn write_long<K: Sink>(sink: &mut K, out: &mut Octets) -> Result<(), Stop>
     ensures kept { K.fault_count sink.old ≤ K.fault_count sink.new }
     ensures stops { IfErr result (IsSinkStop (K.fault_count sink.old) (K.fault_count sink.new)) }
-    ensures ok { OnOk result ((before text : List ℕ) → IsUnderWay before text out.old (K.written sink.old) → IsUnderWay before text out.new (K.written sink.new)) }
+    ensures ok { OnOk result ((before text : List ℕ) → IsUnderWay before text out.old (K.written sink.old)
+        → IsUnderWay before text out.new (K.written sink.new)) }
     ensures err { OnErr result ((before text : List ℕ) → IsUnderWay before text out.old (K.written sink.old) → WritesPrefix before text (K.written sink.new)) }
 {
     if out.len() < FULL {

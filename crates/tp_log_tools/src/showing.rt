@@ -23,8 +23,10 @@ use tp_streams::Stop;
 fn write_records<J: Keeper, K: Sink>(alloc: Global, log: &J, sink: &mut K) -> Result<(), Stop>
     ensures kept { K.fault_count sink.old ≤ K.fault_count sink.new }
     ensures stops { IfErr result (IsSinkStop (K.fault_count sink.old) (K.fault_count sink.new)) }
-    ensures ok { OnOk result ((before : List ℕ) → K.written sink.old ≡ Some before → K.written sink.new ≡ Some (before ++ placed_texts (as_placed (J.standing log.now).told))) }
-    ensures err { OnErr result ((before : List ℕ) → K.written sink.old ≡ Some before → WritesPrefix before (placed_texts (as_placed (J.standing log.now).told)) (K.written sink.new)) }
+    ensures ok { OnOk result ((before : List ℕ) → K.written sink.old ≡ Some before
+        → K.written sink.new ≡ Some (before ++ placed_texts (as_placed (J.standing log.now).told))) }
+    ensures err { OnErr result ((before : List ℕ) → K.written sink.old ≡ Some before
+        → WritesPrefix before (placed_texts (as_placed (J.standing log.now).told)) (K.written sink.new)) }
 {
     let mut out = Octets::new(alloc);
     for i in 0..log.count() {
@@ -40,7 +42,8 @@ fn write_records<J: Keeper, K: Sink>(alloc: Global, log: &J, sink: &mut K) -> Re
 pub fn show<D: Disk, K: Sink>(alloc: Global, disk: D, sink: &mut K) -> (D, Result<(), Stop>)
     // Promise 4.3: `show` writes each record of a log in order with its place, to the byte
     // Promise 4.6: After `show` and `check` the disk has what a start leaves, to the byte
-    ensures shows { OnOk result.1 ((s : Story) → D.told disk ≡ Some s → IsFile (seen s) → Shows (seen s) placed_texts (K.written sink.old) (K.written sink.new) (D.told result.0)) }
+    ensures shows { OnOk result.1 ((s : Story) → D.told disk ≡ Some s → IsFile (seen s)
+        → Shows (seen s) placed_texts (K.written sink.old) (K.written sink.new) (D.told result.0)) }
     // Promise 4.2: A log that is no log, or out of order, is foreign at the definitions' place, and
     //   no other is
     ensures stopped { IfErr result.1 (λ stop. (s : Story) → D.told disk ≡ Some s → IsFile (seen s)
@@ -48,7 +51,8 @@ pub fn show<D: Disk, K: Sink>(alloc: Global, disk: D, sink: &mut K) -> (D, Resul
     // A crash at any moment from the first sync on leaves a log of the records that stood.
     // Promise 4.9: At every moment from the first sync on an image is a log of the records that
     //   stood, or for `compact` and `migrate` of their brief
-    ensures moments { (s : Story) (rs : List LogRec) → D.told disk ≡ Some s → length (seen s) < 2 ^ 64 → IsLog (seen s) rs → HoldsThroughout (λ c. IsLog c rs) s (D.told result.0) }
+    ensures moments { (s : Story) (rs : List LogRec) → D.told disk ≡ Some s → length (seen s) < 2 ^ 64 → IsLog (seen s) rs
+        → HoldsThroughout (λ c. IsLog c rs) s (D.told result.0) }
     // Promise 4.10: A fault of the disk or of the sink comes only where its count rose, with the
     //   new count
     ensures stops { IfErr result.1 (IsShowStop (D.fault_count disk) (D.fault_count result.0) (K.fault_count sink.old) (K.fault_count sink.new)) }
