@@ -1,13 +1,14 @@
 //! The lines of an audit.
-ghost use Rattle.std.specs.Prelude.{◌≡◌, ◌++◌, ◌∷◌, [], OnOk, codes};
+ghost use Rattle.std.specs.Prelude.{◌≡◌, ◌++◌, ◌∷◌, [], OnOk};
+ghost use Rattle.tp_text_builder.specs.Written.{Adds};
 ghost use Rattle.tp_model.specs.Words.{words};
 ghost use Rattle.tp_audit_tool.specs.AuditTranscript.{verdict_words, state_word, fate_text, fate_texts, findings_of};
 
 use std::alloc::Global;
 use tp_audit::{Fate, FateState, Verdict};
 use tp_names::{NoMemory, Octets};
-use tp_schedule::word::{Word, write_alone, write_words};
-use tp_transcript::write_key;
+use tp_text_builder::Text;
+use tp_transcript::put_key;
 
 /// How many findings there are.
 pub(crate) fn findings_of(verdict: &Verdict) -> u64
@@ -25,28 +26,34 @@ pub(crate) fn write_verdict(
     verdict: &Verdict,
     out: &mut Octets,
 ) -> Result<(), NoMemory>
-    ensures { OnOk result (out.new ≡ out.old ++ words (verdict_words verdict.now) ++ 10 ∷ []) }
+    ensures { OnOk result (out.new ≡ out.old ++ (words (verdict_words verdict.now) ++ 10 ∷ [])) }
+{
+    let mut text = Text::after(alloc, out);
+    put_verdict(verdict, &mut text);
+    text.byte(b'\n');
+    text.done(out)
+}
+
+fn put_verdict(verdict: &Verdict, text: &mut Text)
+    ensures { Adds text.old (words (verdict_words verdict.now)) text.new }
 {
     match verdict {
-        Verdict::Yes => write_alone(alloc, "yes", out)?,
+        Verdict::Yes => text.word("yes"),
         Verdict::Differ {
             aaid,
             first,
             second,
-        } => write_words(
-            alloc,
-            &[
-                Word::Text("differ"),
-                Word::Aaid(aaid),
-                Word::Site(&first.site),
-                Word::Short(first.node),
-                Word::Site(&second.site),
-                Word::Short(second.node),
-            ],
-            out,
-        )?,
+        } => {
+            text.word("differ ");
+            text.aaid(aaid);
+            text.space();
+            text.site(&first.site);
+            text.next_short(first.node);
+            text.space();
+            text.site(&second.site);
+            text.next_short(second.node);
+        }
     }
-    out.push(alloc, b'\n')
 }
 
 fn word_of(state: FateState) -> &'static str
@@ -64,20 +71,16 @@ fn word_of(state: FateState) -> &'static str
 fn write_fate(alloc: Global, fate: &Fate, out: &mut Octets) -> Result<(), NoMemory>
     ensures { OnOk result (out.new ≡ out.old ++ fate_text fate.now) }
 {
-    write_words(
-        alloc,
-        &[
-            Word::Text("fate"),
-            Word::Site(&fate.node.site),
-            Word::Short(fate.node.node),
-        ],
-        out,
-    )?;
-    out.push(alloc, b' ')?;
-    write_key(alloc, &fate.key, out)?;
-    out.push(alloc, b' ')?;
-    write_alone(alloc, word_of(fate.state), out)?;
-    out.push(alloc, b'\n')
+    let mut text = Text::after(alloc, out);
+    text.word("fate ");
+    text.site(&fate.node.site);
+    text.next_short(fate.node.node);
+    text.space();
+    put_key(&fate.key, &mut text);
+    text.space();
+    text.word(word_of(fate.state));
+    text.byte(b'\n');
+    text.done(out)
 }
 
 /// Puts a line for each fate at the end of `out`.
