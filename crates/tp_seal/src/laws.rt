@@ -13,8 +13,8 @@ pub fn a_log_that_grew_keeps_its_seal()
 {}
 
 // Promise 25.7: Each image of a call that leaves the bytes before the log's closing gate as they
-//   were has the seals that the log had: so no seal refuses a log that a force or a settle left
-/// A seal that ends at the closing gate is one of each image of a call that leaves the bytes before that gate as they were.
+//   were, as a force and a settle do, has each seal of the log that ends at that gate or before it
+/// A seal that ends at the closing gate or before it is one of each image of a call that leaves the bytes before that gate as they were.
 pub fn a_log_that_a_call_left_keeps_its_seal()
     ensures { (seal : Seal) (gate : ℕ) (log : List ℕ) (old new : Option Story) → IsOn old log → Holds seal log → seal.len ≤ gate → gate ≤ length log
         → LeavesFront gate old new → LeavesOnly (Holds seal) old new }
