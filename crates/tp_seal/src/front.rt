@@ -1,9 +1,11 @@
 //! Where the closing gate of a log is.
-ghost use Rattle.std.specs.Prelude.{◌≤◌, length};
+ghost use Rattle.std.specs.Prelude.{◌≤◌, List, ℕ, length};
+ghost use Rattle.tp_journal.specs.Log.{StandsFor, place_behind};
 
 /// How many bytes of a log stand before its closing gate; none where a compaction was cut, or where it is no log.
 pub(crate) fn front_of(log: &[u8]) -> usize
-    ensures { result ≤ length log.now }
+    ensures within { result ≤ length log.now }
+    ensures gate { (bodies : List (List ℕ)) → StandsFor log.now bodies → result ≤ place_behind bodies }
 {
     let [_, _, _, _, 1, bodies @ ..] = log else {
         return 0;

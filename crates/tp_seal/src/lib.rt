@@ -21,7 +21,7 @@ pub use broken::Broken;
 pub use duty::Duty;
 pub use fault::SealFault;
 pub use guard::{Barred, Guard};
-pub use laws::a_log_that_grew_keeps_its_seal;
+pub use laws::{a_log_that_a_call_left_keeps_its_seal, a_log_that_grew_keeps_its_seal};
 pub use refusal::Refusal;
 pub use seal::Seal;
 pub use seal_file::SealFile;

@@ -1,6 +1,7 @@
 //! What a seal says of a log.
 ghost use Rattle.std.specs.Prelude.{◌≡◌, ◌≢◌, ◌↔◌, ◌≤◌, ◌<◌, ℕ, List, length, take, None, Some};
 ghost use Rattle.sha2.specs.Sha256.{sha256};
+ghost use Rattle.tp_journal.specs.Log.{StandsFor, place_behind};
 ghost use Rattle.tp_seal.specs.Seals.{Holds};
 ghost use Rattle.tp_seal.specs.declared.broken.Broken.{Broken};
 
@@ -22,6 +23,8 @@ impl Seal {
     pub fn of(name: SiteName, log: &[u8]) -> Seal
         ensures name { result.name ≡ name }
         ensures holds { Holds result log.now }
+        // Promise 25.6: What is sealed of a log ends at its closing gate
+        ensures gate { (bodies : List (List ℕ)) → StandsFor log.now bodies → result.len ≤ place_behind bodies }
     {
         let front = front_of(log);
         Seal {
