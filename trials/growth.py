@@ -201,7 +201,7 @@ def cases(transcript: typing.Callable[[int], bytes]) -> typing.Iterator[Case]:
             more = ["--rounds", "10"] if option == "--nodes" else ["--nodes", "200"]
             yield Case([word, *more, option, "%d"], over, size, lambda count: Input(b"", {}))
     for option, known in (("", 2.8), ("--mermaid", 0), ("--html", 2.8)):
-        yield Case(["draw"] + ([option] if option else []), "lines of a transcript", 2000, lambda count: Input(transcript(count), {}), known=known)
+        yield Case(["draw"] + ([option] if option else []), "lines of a transcript", 8000, lambda count: Input(transcript(count), {}), known=known)
 
 
 class Growth:
@@ -223,11 +223,11 @@ class Growth:
         return {"drive": self.options.drive, "draw": self.options.draw, "unite": self.options.unite}.get(words[0], True) is not None
 
     def transcript(self, count: int) -> bytes:
-        """The lines of a transcript, about as many as those of its schedule."""
+        """The first lines of a transcript."""
         place = self.place(Input(b"", {}))
-        run = subprocess.run(self.command(["replay"]), cwd=place, input=rounds(2, count, "ended"), stdout=subprocess.PIPE, check=True)
+        run = subprocess.run(self.command(["replay"]), cwd=place, input=rounds(2, count // 3 + 60, "ended"), stdout=subprocess.PIPE, check=True)
         shutil.rmtree(place)
-        return run.stdout
+        return b"".join(run.stdout.splitlines(keepends=True)[:count])
 
     def place(self, given: Input) -> pathlib.Path:
         place = pathlib.Path(tempfile.mkdtemp(dir=self.folder))
