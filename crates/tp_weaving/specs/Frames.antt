@@ -85,13 +85,14 @@ told_place t n under s = elim t.records [
   | r ∷ rs ↦ None
 ]
 
-abbrev pub told_frame : Recording → Frame → Option Recording
-told_frame t (Frame.Place n under s) = told_place t n under s
-told_frame t (Frame.Starts s) = Some (with_records t (with_start t.records (suc t.count) s))
-told_frame t (Frame.Takes g) = option_map (with_records t) (with_event t.records (suc t.count) g)
+-- the frame of that number
+abbrev pub told_frame : ℕ → Recording → Frame → Option Recording
+told_frame at t (Frame.Place n under s) = told_place t n under s
+told_frame at t (Frame.Starts s) = Some (with_records t (with_start t.records at s))
+told_frame at t (Frame.Takes g) = option_map (with_records t) (with_event t.records at g)
 
 abbrev pub told_body : Recording → List ℕ → Option Recording
-told_body t body = elim (frame_in body) [ None ↦ None | Some f ↦ told_frame t f ]
+told_body t body = elim (frame_in body) [ None ↦ None | Some f ↦ told_frame (suc t.count) t f ]
 
 abbrev pub told_from : Recording → List (List ℕ) → Option Recording
 told_from t [] = Some t

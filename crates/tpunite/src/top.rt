@@ -1,6 +1,7 @@
 //! The program's one call.
-ghost use Rattle.std.specs.Prelude.{◌≡◌, ◌≢◌, ◌↔◌, ◌++◌, IfOk, OnOk};
-ghost use Rattle.tpunite.specs.Runs.{verdict_line, status_after, Runs, IsStopped, Writes};
+ghost use Rattle.std.specs.Prelude.{ℕ, ◌≡◌, ◌≢◌, ◌↔◌, ◌++◌, [], List, Option, IfOk, OnOk};
+ghost use Rattle.tp_unite.specs.Verdicts.{Stops};
+ghost use Rattle.tpunite.specs.Runs.{verdict_line, status_after, Runs, IsStopped, IsUnjudged, Writes};
 ghost use Rattle.tpunite.specs.declared.status.Status.{Status as TheStatus};
 
 use crate::Status;
@@ -13,7 +14,8 @@ use tp_unite::{Verdict, unite};
 
 // How a program ends that stops so. What comes of a log on a disk does not come here.
 fn status_of(stop: Stop) -> Status
-    ensures { IsStopped result }
+    ensures stopped { IsStopped result }
+    ensures unjudged { (left : Option (List ℕ)) (old new : ℕ) → Stops left old new stop → IsUnjudged left old new result }
 {
     match stop {
         Stop::BadInput { at, why } => Status::BadInput { at, why },
@@ -77,6 +79,7 @@ fn report<K: Sink>(alloc: Global, verdict: Verdict, sink: &mut K) -> Status
 fn judge<S: Source, K: Sink>(alloc: Global, source: &mut S, sink: &mut K) -> Status
     ensures usage { result ≢ TheStatus.Usage }
     ensures runs { Runs (S.left source.old) result (K.written sink.old) (K.written sink.new) }
+    ensures unjudged { IsUnjudged (S.left source.old) (S.fault_count source.old) (S.fault_count source.new) result }
 {
     match unite(alloc, source) {
         Ok(verdict) => report(alloc, verdict, sink),
@@ -95,8 +98,13 @@ pub fn run<S: Source, K: Sink>(
     source: &mut S,
     sink: &mut K,
 ) -> Status
+    // Promise 22.27 [clauses usage unjudged, tpunite/specs/Runs.antt]: It ends with usage exactly where a
+    //   word is given; and where there is no verdict, its status names the frame and the reason or the
+    //   limit, or the count of its source, which rose, as 22.26 says
+    ensures usage { (result ≡ TheStatus.Usage) ↔ (words.now ≢ []) }
     ensures unread { result ≡ TheStatus.Usage → source.new ≡ source.old }
     ensures runs { Runs (S.left source.old) result (K.written sink.old) (K.written sink.new) }
+    ensures unjudged { IsUnjudged (S.left source.old) (S.fault_count source.old) (S.fault_count source.new) result }
 {
     if !words.is_empty() {
         return Status::Usage;
