@@ -1,12 +1,11 @@
 -- A recording is heard, frame by frame.
-use Rattle.std.proofs.Common.{◌≡◌, ℕ, Bool, true, false, refl, ap, sym, ◌∙◌, subst, Option, Some, None, List, [], ◌∷◌}
+use Rattle.std.proofs.Common.{◌≡◌, ℕ, suc, false, refl, ap, sym, ◌∙◌, subst, Option, Some, None, List, [], ◌∷◌}
 use Rattle.std.specs.Prelude.{option_map}
 use Rattle.std.specs.Option.{is_some}
-use Rattle.tp_names.specs.Same.{is_name}
 use Rattle.tp_records.specs.declared.body.Event.{Event as Given}
 use Rattle.tp_deployments.specs.Deployments.{Starts, Takes, Place}
 use Rattle.tp_weaving.specs.declared.lane.Lane.{Lane}
-use Rattle.tp_weaving.specs.Frames.{Record, Recording as Told, first_deed, with_deed, with_start, told_place, has_record}
+use Rattle.tp_weaving.specs.Frames.{Record, Recording as Told, first_deed, with_deed, with_event, with_records, told_place, has_record}
 use Rattle.tp_weaving.specs.Parts.{AreApart}
 use Rattle.tp_weaving.specs.Places.{placed}
 use Rattle.tp_weaving.specs.Weaving.{IsLane, AreLanes}
@@ -43,7 +42,7 @@ no_lanes : (qs : List Place) (rs : List Record) (xs : List Lane) → rs ≡ [] �
 no_lanes qs rs xs i j = subst (λ (l : List Record). AreLanes qs l xs) (sym i) (subst (AreLanes qs []) (sym j) tt)
 
 whole_lane : (qs : List Place) (r : Record) (p : Playing) → IsPlaying qs r p → IsLane qs r p.lane
-whole_lane qs r p is = (is.name, is.taken, is.leads)
+whole_lane qs r p is = record { name = is.name; taken = is.taken; leads = is.leads; frames = is.frames }
 
 -- ---- places
 
@@ -57,12 +56,12 @@ placed_so t n under s c new is none h = subst (λ (o : Option Told). Comes o (re
     fits = ap (λ (qs : List Place). placed qs n under s) (sym is.places) ∙ h
 
     next : Told
-    next = record { places = new; records = [] }
+    next = record { count = suc t.count; places = new; records = [] }
 
     told : told_place t n under s ≡ Some next
     told =
-        ap (λ (rs : List Record). elim rs as (λ _. Option Told) [ [] ↦ option_map (λ (qs : List Place). record { places = qs; records = [] }) (placed t.places n under s) | r ∷ more ↦ None ]) empty.0
-        ∙ ap (option_map (λ (qs : List Place). record { places = qs; records = [] })) fits
+        ap (λ (rs : List Record). elim rs as (λ _. Option Told) [ [] ↦ option_map (λ (qs : List Place). record { count = suc t.count; places = qs; records = [] }) (placed t.places n under s) | r ∷ more ↦ None ]) empty.0
+        ∙ ap (option_map (λ (qs : List Place). record { count = suc t.count; places = qs; records = [] })) fits
 
     heard : IsHeard next (record c { places = new })
     heard = record {
@@ -74,16 +73,16 @@ placed_so t n under s c new is none h = subst (λ (o : Option Told). Comes o (re
 
 -- ---- a process starts
 
-pub opened : (t : Told) (name : List ℕ) (c : Recording) (p : Playing) → AreWhole t c → has_record t.records name ≡ false → IsPlaying t.places (first_deed name) p → IsHeard (record { places = t.places; records = first_deed name ∷ t.records }) (record c { playing = Some p })
-opened t name c p is new playing = record {
+pub opened : (t : Told) (at : ℕ) (name : List ℕ) (c : Recording) (p : Playing) → AreWhole t c → has_record t.records name ≡ false → IsPlaying t.places (first_deed at name) p → IsHeard (with_records t (first_deed at name ∷ t.records)) (record c { playing = Some p })
+opened t at name c p is new playing = record {
   places = is.places;
   arranged = is.arranged;
   apart = (new, is.apart);
   played = (playing, is.lanes);
 }
 
-pub gone_on : (t : Told) (r : Record) (rs : List Record) (p q : Playing) (c : Recording) → IsLeft t r rs p c → IsPlaying t.places (with_deed r (Starts r.site)) q → IsHeard (record { places = t.places; records = with_deed r (Starts r.site) ∷ rs }) (record c { playing = Some q })
-gone_on t r rs p q c is playing = record {
+pub gone_on : (t : Told) (at : ℕ) (r : Record) (rs : List Record) (p q : Playing) (c : Recording) → IsLeft t r rs p c → IsPlaying t.places (with_deed r at (Starts r.site)) q → IsHeard (with_records t (with_deed r at (Starts r.site) ∷ rs)) (record c { playing = Some q })
+gone_on t at r rs p q c is playing = record {
   places = is.places;
   arranged = is.arranged;
   apart = is.apart;
@@ -96,11 +95,8 @@ first_whole t c is none =
     let empty = none_played t.places t.records c.lanes.items c.playing none is.played in
     record { places = is.places; arranged = is.arranged; apart = is.apart; lanes = no_lanes t.places t.records c.lanes.items empty.0 empty.1 }
 
-pub first_start : (t : Told) (name : List ℕ) (c d : Recording) → IsHeard t c → c.playing ≡ None → IsHeard (record { places = t.places; records = first_deed name ∷ t.records }) d → IsHeard (record { places = t.places; records = with_start t.records name }) d
-first_start t name c d is none h =
-    let empty = none_played t.places t.records c.lanes.items c.playing none is.played in
-    let same : first_deed name ∷ t.records ≡ with_start t.records name = ap (λ (l : List Record). first_deed name ∷ l) empty.0 ∙ sym (ap (λ (l : List Record). with_start l name) empty.0) in
-    subst (λ (l : List Record). IsHeard (record { places = t.places; records = l }) d) same h
+pub none_told : (t : Told) (c : Recording) → IsHeard t c → c.playing ≡ None → t.records ≡ []
+none_told t c is none = (none_played t.places t.records c.lanes.items c.playing none is.played).0
 
 -- where one is
 pub record Holds (t : Told) (c : Recording) (p : Playing) : Type 0 where
@@ -114,14 +110,6 @@ holds t c p is some =
     let k = plays t.places t.records c.lanes.items c.playing p some is.played in
     record { first = k.first; rest = k.rest; are = k.are; left = record { places = is.places; arranged = is.arranged; apart = subst AreApart k.are is.apart; playing = k.playing; lanes = k.lanes } }
 
-start_by : (r : Record) (rs : List Record) (name : List ℕ) (b : Bool) → is_name r.site name ≡ b → with_start (r ∷ rs) name ≡ (elim b as (λ _. List Record) [ true ↦ with_deed r (Starts r.site) ∷ rs | false ↦ first_deed name ∷ r ∷ rs ])
-start_by r rs name b i = ap (λ (c : Bool). elim c as (λ _. List Record) [ true ↦ with_deed r (Starts r.site) ∷ rs | false ↦ first_deed name ∷ r ∷ rs ]) i
-
-pub next_start : (t : Told) (name : List ℕ) (c d : Recording) (p : Playing) (h : Holds t c p) → is_name p.lane.name name ≡ true → IsHeard (record { places = t.places; records = with_deed h.first (Starts h.first.site) ∷ h.rest }) d → IsHeard (record { places = t.places; records = with_start t.records name }) d
-next_start t name c d p h same k =
-    let by : is_name h.first.site name ≡ true = ap (λ (s : List ℕ). is_name s name) (sym h.left.playing.name) ∙ same in
-    subst (λ (l : List Record). IsHeard (record { places = t.places; records = l }) d) (sym (ap (λ (l : List Record). with_start l name) h.are ∙ start_by h.first h.rest name true by)) k
-
 pub other_whole : (t : Told) (c d : Recording) (p : Playing) (h : Holds t c p) → d.places ≡ c.places → d.lanes.items ≡ p.lane ∷ c.lanes.items → AreWhole t d
 other_whole t c d p h places lanes = record {
   places = places ∙ h.left.places;
@@ -130,20 +118,14 @@ other_whole t c d p h places lanes = record {
   lanes = subst (λ (l : List Record). AreLanes t.places l d.lanes.items) (sym h.are) (subst (AreLanes t.places (h.first ∷ h.rest)) (sym lanes) (whole_lane t.places h.first p h.left.playing, h.left.lanes));
 }
 
-pub other_start : (t : Told) (name : List ℕ) (c d : Recording) (p : Playing) (h : Holds t c p) → is_name p.lane.name name ≡ false → IsHeard (record { places = t.places; records = first_deed name ∷ t.records }) d → IsHeard (record { places = t.places; records = with_start t.records name }) d
-other_start t name c d p h other k =
-    let by : is_name h.first.site name ≡ false = ap (λ (s : List ℕ). is_name s name) (sym h.left.playing.name) ∙ other in
-    let same : first_deed name ∷ t.records ≡ with_start t.records name = ap (λ (l : List Record). first_deed name ∷ l) h.are ∙ sym (ap (λ (l : List Record). with_start l name) h.are ∙ start_by h.first h.rest name false by) in
-    subst (λ (l : List Record). IsHeard (record { places = t.places; records = l }) d) same k
-
 -- ---- an event
 
-pub given_so : (t : Told) (g : Given) (c : Recording) (p q : Playing) → IsHeard t c → c.playing ≡ Some p → ((r : Record) → IsPlaying c.places r p → IsPlaying c.places (with_deed r (Takes r.site g)) q)
-    → Comes (elim t.records as (λ _. Option Told) [ [] ↦ None | r ∷ rs ↦ Some (record { places = t.places; records = with_deed r (Takes r.site g) ∷ rs }) ]) (record c { playing = Some q })
-given_so t g c p q is some goes =
+pub given_so : (t : Told) (at : ℕ) (g : Given) (c : Recording) (p q : Playing) → IsHeard t c → c.playing ≡ Some p → ((r : Record) → IsPlaying c.places r p → IsPlaying c.places (with_deed r at (Takes r.site g)) q)
+    → Comes (option_map (with_records t) (with_event t.records at g)) (record c { playing = Some q })
+given_so t at g c p q is some goes =
     let h = holds t c p is some in
-    let on : (r : Record) → IsPlaying t.places r p → IsPlaying t.places (with_deed r (Takes r.site g)) q = subst (λ (qs : List Place). (r : Record) → IsPlaying qs r p → IsPlaying qs (with_deed r (Takes r.site g)) q) is.places goes in
-    subst (λ (l : List Record). Comes (elim l as (λ _. Option Told) [ [] ↦ None | r ∷ rs ↦ Some (record { places = t.places; records = with_deed r (Takes r.site g) ∷ rs }) ]) (record c { playing = Some q })) (sym h.are)
+    let on : (r : Record) → IsPlaying t.places r p → IsPlaying t.places (with_deed r at (Takes r.site g)) q = subst (λ (qs : List Place). (r : Record) → IsPlaying qs r p → IsPlaying qs (with_deed r at (Takes r.site g)) q) is.places goes in
+    subst (λ (l : List Record). Comes (option_map (with_records t) (with_event l at g)) (record c { playing = Some q })) (sym h.are)
     (record { places = is.places; arranged = is.arranged; apart = h.left.apart; played = (on h.first h.left.playing, h.left.lanes) })
 
 -- ---- the end

@@ -1,5 +1,5 @@
 -- The lanes of the sites that were played, by the names of these sites.
-use Rattle.std.proofs.Common.{◌≡◌, ◌-◌, ◌<◌, ◌≤◌, length, take, drop, ℕ, Bool, true, false, refl, ap, sym, ◌∙◌, subst, arith, List, [], ◌∷◌}
+use Rattle.std.proofs.Common.{◌≡◌, suc, ◌-◌, ◌<◌, ◌≤◌, length, take, drop, ℕ, Bool, true, false, refl, ap, sym, ◌∙◌, subst, arith, List, [], ◌∷◌}
 use Rattle.std.specs.Prelude.{slice_index_or}
 use Rattle.std.proofs.lemmas.List.{take_all}
 use Rattle.tp_names.specs.Same.{is_name}
@@ -23,7 +23,7 @@ first_lane qs [] (y ∷ ys) x s b some is named on h = absurd h
 first_lane qs (r ∷ rs) [] x s b some is named on h = absurd h
 first_lane qs (r ∷ rs) (y ∷ ys) x s b some is named on h =
     let same : x ≡ y = is in
-    let name : r.site ≡ x.name = sym (ap (λ (l : Lane). l.name) same ∙ h.0.0) in
+    let name : r.site ≡ x.name = sym (ap (λ (l : Lane). l.name) same ∙ h.0.name) in
     on ∙ sym (chosen r rs s true (ap (λ (n : List ℕ). is_name n s) name ∙ sym named ∙ on))
 
 pub other_lane : (qs : List Place) (rs : List Record) (xs : List Lane) (x : Lane) (s : List ℕ) (b c : Bool) → 1 ≤ length xs → x ≡ slice_index_or xs 0 x → b ≡ is_name x.name s → b ≡ false
@@ -33,6 +33,12 @@ other_lane qs [] (y ∷ ys) x s b c some is named off rest h = absurd h
 other_lane qs (r ∷ rs) [] x s b c some is named off rest h = absurd h
 other_lane qs (r ∷ rs) (y ∷ ys) x s b c some is named off rest h =
     let same : x ≡ y = is in
-    let name : r.site ≡ x.name = sym (ap (λ (l : Lane). l.name) same ∙ h.0.0) in
+    let name : r.site ≡ x.name = sym (ap (λ (l : Lane). l.name) same ∙ h.0.name) in
     let behind : take (length (y ∷ ys) - 1) ys ≡ ys = take_all (length (y ∷ ys) - 1) ys (omega arith) in
     rest qs rs (subst (AreLanes qs rs) (sym behind) h.1) ∙ sym (chosen r rs s false (ap (λ (n : List ℕ). is_name n s) name ∙ sym named ∙ off))
+
+pub as_many : (qs : List Place) (rs : List Record) (xs : List Lane) → AreLanes qs rs xs → length xs ≡ length rs
+as_many qs [] [] h = refl
+as_many qs [] (x ∷ xs) h = absurd h
+as_many qs (r ∷ rs) [] h = absurd h
+as_many qs (r ∷ rs) (x ∷ xs) h = ap suc (as_many qs rs xs h.1)

@@ -4,4 +4,6 @@ pub mod Asking
 pub mod Played
 pub mod Laid
 pub mod Heard
+pub mod Answering
+pub mod Never
 pub mod Listening

@@ -1,19 +1,16 @@
 -- A site that is played again: its steps lead to the deeds of its record, and it stands where these leave it.
-use Rattle.std.specs.Prelude.{ℕ, ◌≡◌, true, Option, Some, None, List, [], ◌∷◌}
-use Rattle.tp_names.specs.declared.identifiers.Addr.{Addr}
+use Rattle.std.specs.Prelude.{ℕ, ◌≡◌, true, Some, None, List, [], ◌∷◌}
 use Rattle.tp_outside.specs.declared.mem_disk.MemDisk.{MemDisk}
 use Rattle.tp_outside.specs.MemDisk.{recorded}
 use Rattle.tp_records.specs.declared.body.Event.{Event as Given}
 use Rattle.tp_journal.specs.Journals.{Kept, standing_of}
 use Rattle.tp_journal.specs.Keeping.{Standing}
-use Rattle.tp_model.specs.Parts.{Event}
 use Rattle.tp_site.specs.Site.{Site, opening_of}
 use Rattle.tp_site.specs.Events.{IsAt, all_nodes}
 use Rattle.tp_site_logs.specs.Lives.{Life, opening_after}
 use Rattle.tp_deployments.specs.Deployments.{Place, life_after}
-use Rattle.tp_weaving.specs.declared.letter.Letter.{Letter}
 use Rattle.tp_weaving.specs.Frames.{Record}
-use Rattle.tp_weaving.specs.Steps.{IsLetterOf, Leads}
+use Rattle.tp_weaving.specs.Steps.{Leads, numbered}
 use Rattle.tp_unite.specs.declared.playing.Playing.{Playing}
 
 -- what a journal in memory tells
@@ -25,16 +22,12 @@ pub record IsPlaying (qs : List Place) (r : Record) (p : Playing) : Type 0 where
   pub name : p.lane.name ≡ r.site
   pub taken : p.lane.taken ≡ 0
   pub leads : Leads qs r.site [] p.lane.steps.items r.deeds
+  pub frames : numbered [] p.lane.steps.items ≡ r.frames
   pub given : List Given
   pub life : Life
   pub lived : life_after r.deeds r.site ≡ given ∷ life
   pub at : IsAt standing all_nodes (opening_after r.site life) given p.site
   pub is_open : p.site.shut ≡ None
-
--- the letter is the one that the event brings
-abbrev pub Brings : Addr → Event → Option Letter → Type 0
-Brings at (Event.Arrive from r) needs = IsLetterOf from at r needs
-Brings at _ needs = Unit {0}
 
 -- ---- the log
 

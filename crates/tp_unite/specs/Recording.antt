@@ -1,12 +1,19 @@
 -- How far a recording was heard, and what the code keeps of it.
-use Rattle.std.specs.Prelude.{◌≡◌, Option, Some, None, List, [], ◌∷◌}
+use Rattle.std.specs.Prelude.{ℕ, ◌≡◌, ◌⊎◌, Option, Some, None, Result, Ok, Err, List, [], ◌∷◌}
+use Rattle.tp_model.specs.declared.verdict.What.{What}
+use Rattle.tp_model.specs.Transcript.{Ending, Done, Bad_input, At_limit}
+use Rattle.tp_streams.specs.declared.stop.Stop.{Stop}
 use Rattle.tp_deployments.specs.Deployments.{Place, AreArranged}
+use Rattle.tp_weaving.specs.declared.frame.Frame.{Frame}
 use Rattle.tp_weaving.specs.declared.lane.Lane.{Lane}
-use Rattle.tp_weaving.specs.Frames.{Record, Recording as Told}
+use Rattle.tp_weaving.specs.Frames.{Record, Recording as Told, frame_in}
 use Rattle.tp_weaving.specs.Parts.{AreApart}
 use Rattle.tp_weaving.specs.Weaving.{AreLanes}
 use Rattle.tp_unite.specs.declared.playing.Playing.{Playing}
+use Rattle.tp_unite.specs.declared.playing.PlayFault.{PlayFault}
 use Rattle.tp_unite.specs.declared.recording.Recording.{Recording}
+use Rattle.tp_unite.specs.declared.recording.HearFault.{HearFault}
+use Rattle.tp_unite.specs.Placing.{MisplacesOf}
 use Rattle.tp_unite.specs.Playing.{IsPlaying}
 
 -- the site of the newest record is played; those of the others were played whole
@@ -41,3 +48,35 @@ pub record IsLeft (t : Told) (r : Record) (rs : List Record) (p : Playing) (c : 
   pub apart : AreApart (r ∷ rs)
   pub playing : IsPlaying t.places r p
   pub lanes : AreLanes t.places rs c.lanes.items
+
+-- ---- a frame
+
+-- what a fault of a site means in the frame of that number
+abbrev pub fault_at : PlayFault → ℕ → HearFault
+fault_at PlayFault.NotPlaced at = HearFault.NotPlaced
+fault_at PlayFault.Full at = HearFault.Stop (Stop.Limit What.Log at)
+fault_at PlayFault.NoMemory at = HearFault.Stop Stop.NoMemory
+
+-- why the frame of that number is not taken: it ends the reading so; or it is the log that passes a limit
+abbrev pub IsStopAt : ℕ → Ending → Stop → Type 0
+IsStopAt at ending (Stop.BadInput n why) = ending ≡ Bad_input n why
+IsStopAt at ending (Stop.Limit what n) = (ending ≡ At_limit what n) ⊎ ((what ≡ What.Log) × (n ≡ at) × (ending ≡ Done))
+IsStopAt at ending (Stop.Foreign n) = ⊥
+IsStopAt at ending (Stop.ReadFault faults) = ⊥
+IsStopAt at ending (Stop.WriteFault faults) = ⊥
+IsStopAt at ending (Stop.DiskFault faults) = ⊥
+IsStopAt at ending Stop.NoMemory = Unit {0}
+
+-- it is taken, or it is not
+abbrev pub Answers : ℕ → Ending → Option Told → Type 0 → Result (Unit {0}) HearFault → Recording → Type 0
+Answers at ending told misplaced (Ok u) new = (ending ≡ Done) × Comes told new
+Answers at ending told misplaced (Err HearFault.NotPlaced) new = (ending ≡ Done) × misplaced
+Answers at ending told misplaced (Err (HearFault.Stop stop)) new = IsStopAt at ending stop
+
+abbrev pub MisplacesIn : Told → Frame → Type 0
+MisplacesIn t (Frame.Takes g) = MisplacesOf t.places t.records g
+MisplacesIn t _ = ⊥
+
+-- the event in that frame
+abbrev pub Misplaces : Told → List ℕ → Type 0
+Misplaces t body = elim (frame_in body) [ None ↦ ⊥ | Some f ↦ MisplacesIn t f ]

@@ -1,17 +1,14 @@
 //! The letters that a node says.
-ghost use Rattle.std.specs.Prelude.{◌≡◌, ◌∷◌, [], true, Some, List, map, IfOk, OnOk};
-ghost use Rattle.std.specs.List.{AllByRecursion};
-ghost use Rattle.tp_model.specs.Parts.{Out as OutValue};
+ghost use Rattle.std.specs.Prelude.{◌≡◌, ◌∷◌, [], true, map, IfOk, OnOk};
 ghost use Rattle.tp_node_state.specs.Outs.{out_of};
 ghost use Rattle.tp_texts.specs.PeerTexts.{CarriesFew};
-ghost use Rattle.tp_records.specs.BodyReading.{peer_in};
-ghost use Rattle.tp_unite.specs.Said.{IsLetterIn, IsWithin};
+ghost use Rattle.tp_unite.specs.Said.{Spells, IsRecordIn, AddsLetters};
 
 use std::alloc::Global;
 use tp_names::{Addr, NoMemory, Octets};
 use tp_records::{DialogueRecord, PeerRecord};
 use tp_site::{Out, Outs};
-use tp_texts::{few_has_text, peer_octets};
+use tp_texts::{few_has_text, peer_octets, read_whole_peer};
 use tp_weaving::Letter;
 
 /// The most octets of a user in a record.
@@ -32,7 +29,7 @@ fn carries_few(rec: &PeerRecord) -> bool
 
 // The octets that say the record.
 fn octets_of(alloc: Global, rec: &PeerRecord) -> Result<Octets, NoMemory>
-    ensures { IfOk result (λ octets. peer_in octets ≡ Some rec.now) }
+    ensures { IfOk result (Spells rec.now) }
 {
     if !carries_few(rec) {
         return Err(NoMemory);
@@ -42,6 +39,14 @@ fn octets_of(alloc: Global, rec: &PeerRecord) -> Result<Octets, NoMemory>
     Ok(octets)
 }
 
+/// The record of which these octets are the whole text.
+pub(crate) fn record_in(alloc: Global, octets: &[u8]) -> Result<Option<PeerRecord>, NoMemory>
+    ensures { IfOk result (IsRecordIn octets.now) }
+{
+    let rec = read_whole_peer(alloc, octets)?;
+    Ok(rec)
+}
+
 // Puts the letter that an output is, if it is one, behind the others.
 fn add_letter(
     alloc: Global,
@@ -49,7 +54,7 @@ fn add_letter(
     out: &Out,
     letters: &mut Vec<Letter>,
 ) -> Result<(), NoMemory>
-    ensures { OnOk result ((all : List OutValue) → IsWithin (out_of out.now ∷ []) all → AllByRecursion (IsLetterIn all from.now) letters.old.items → AllByRecursion (IsLetterIn all from.now) letters.new.items) }
+    ensures { OnOk result (AddsLetters from.now (out_of out.now ∷ []) letters.old.items letters.new.items) }
 {
     match out {
         Out::Tell(_) => Ok(()),
@@ -72,7 +77,7 @@ fn add_letters(
     outs: &[Out],
     letters: &mut Vec<Letter>,
 ) -> Result<(), NoMemory>
-    ensures { OnOk result ((all : List OutValue) → IsWithin (map out_of outs.now) all → AllByRecursion (IsLetterIn all from.now) letters.old.items → AllByRecursion (IsLetterIn all from.now) letters.new.items) }
+    ensures { OnOk result (AddsLetters from.now (map out_of outs.now) letters.old.items letters.new.items) }
 {
     match outs {
         [] => Ok(()),
@@ -86,7 +91,7 @@ fn add_letters(
 
 /// The letters among these outputs of that node.
 pub(crate) fn letters_in(alloc: Global, from: &Addr, outs: &Outs) -> Result<Vec<Letter>, NoMemory>
-    ensures { IfOk result (λ letters. AllByRecursion (IsLetterIn outs.now from.now) letters.items) }
+    ensures { IfOk result (λ letters. AddsLetters from.now outs.now [] letters.items) }
 {
     let mut letters = Vec::new(alloc);
     add_letters(alloc, from, outs.as_slice(), &mut letters)?;

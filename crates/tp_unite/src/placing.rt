@@ -1,7 +1,9 @@
 //! What is asked of an event that a node takes, but that its record was said.
-ghost use Rattle.std.specs.Prelude.{◌≡◌, true};
+ghost use Rattle.std.specs.Prelude.{◌≡◌, true, false};
 ghost use Rattle.tp_node.specs.NodeEvent.{event_of};
-ghost use Rattle.tp_unite.specs.Placing.{HasPlace, names_placed};
+ghost use Rattle.tp_deployments.specs.Deployments.{AreArranged};
+ghost use Rattle.tp_weaving.specs.Steps.{HasPlace};
+ghost use Rattle.tp_unite.specs.Placing.{names_placed};
 
 use tp_names::Addr;
 use tp_names::same::is_addr_option;
@@ -26,7 +28,8 @@ fn names_placed(places: &Places, place: &Place, event: &NodeEvent<'_>) -> bool
 
 /// The event is of a node that has its place, and names only nodes that have theirs.
 pub(crate) fn is_placed(places: &Places, at: &Addr, event: &NodeEvent<'_>) -> bool
-    ensures { result ≡ true → HasPlace places.now at.now (event_of event.now) }
+    ensures placed { result ≡ true → HasPlace places.now at.now (event_of event.now) }
+    ensures unplaced { result ≡ false → AreArranged places.now → HasPlace places.now at.now (event_of event.now) → ⊥ }
 {
     match places.find(at) {
         None => false,

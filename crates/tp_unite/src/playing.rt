@@ -1,15 +1,17 @@
 //! A site that is played once more, from what its processes were given.
-ghost use Rattle.std.specs.Prelude.{ℕ, ◌≡◌, List, IfOk, OnOk};
+ghost use Rattle.std.specs.Prelude.{ℕ, ◌≡◌, ◌≢◌, Err, List, IfOk, OnOk};
 ghost use Rattle.tp_records.specs.declared.body.Event.{Event as Given};
 ghost use Rattle.tp_model.specs.NodeRun.{Is, Refuses, asked};
 ghost use Rattle.tp_node.specs.NodeEvent.{event_of};
 ghost use Rattle.tp_site.specs.Events.{opening_at};
-ghost use Rattle.tp_deployments.specs.Deployments.{Starts, Takes, Place as PlaceValue};
+ghost use Rattle.tp_deployments.specs.Deployments.{Starts, Takes, Place as PlaceValue, AreArranged};
 ghost use Rattle.tp_weaving.specs.Frames.{Record, first_deed, with_deed};
-ghost use Rattle.tp_unite.specs.Playing.{IsPlaying, Brings, IsFreshLog, StartsOn};
+ghost use Rattle.tp_weaving.specs.Steps.{Brings};
+ghost use Rattle.tp_unite.specs.Placing.{IsMisplaced};
+ghost use Rattle.tp_unite.specs.Playing.{IsPlaying, IsFreshLog, StartsOn};
 ghost use Rattle.tp_unite.specs.declared.playing.PlayFault.{PlayFault as TheFault};
 
-use crate::letters::letters_in;
+use crate::letters::{letters_in, record_in};
 use crate::placing::is_placed;
 use std::alloc::Global;
 use tp_journal::{Journal, Keeper, format};
@@ -17,8 +19,7 @@ use tp_names::same::is_name;
 use tp_names::{Addr, NoMemory, Octets, SiteName};
 use tp_outside::MemDisk;
 use tp_records::{Event, PeerRecord, Request};
-use tp_site::{NodeEvent, Outs, Site, SiteFault};
-use tp_texts::read_whole_peer;
+use tp_site::{NodeEvent, Outs, Site, SiteFault, StartFault};
 use tp_weaving::{Lane, Letter, Places, Step};
 
 /// Why a site does not go on.
@@ -73,18 +74,21 @@ fn start(
     journal: Journal<MemDisk>,
     name: SiteName,
 ) -> Result<Site<Journal<MemDisk>>, PlayFault>
-    ensures { IfOk result (StartsOn journal name) }
+    ensures starts { IfOk result (StartsOn journal name) }
+    ensures fault { result ≢ Err TheFault.NotPlaced }
 {
     match Site::start(alloc, journal, name) {
         Ok(site) => Ok(site),
-        Err((_journal, _fault)) => Err(PlayFault::Full),
+        Err((_journal, StartFault::BootsSpent | StartFault::Full { .. })) => Err(PlayFault::Full),
+        Err((_journal, _fault)) => Err(PlayFault::NoMemory),
     }
 }
 
 impl Playing {
     /// The first process of a site of that name has started.
     pub(crate) fn new(alloc: Global, name: SiteName, at: u64) -> Result<Playing, PlayFault>
-        ensures { IfOk result (λ p. (qs : List PlaceValue) → IsPlaying qs (first_deed name) p) }
+        ensures plays { IfOk result (λ p. (qs : List PlaceValue) → IsPlaying qs (first_deed at name) p) }
+        ensures fault { result ≢ Err TheFault.NotPlaced }
     {
         let site = start(alloc, fresh_log(alloc)?, name)?;
         let mut lane = Lane::new(alloc, name);
@@ -94,7 +98,8 @@ impl Playing {
 
     /// The next process has started, on the log that the one before it left.
     pub(crate) fn next(self, alloc: Global, at: u64) -> Result<Playing, PlayFault>
-        ensures { (qs : List PlaceValue) (r : Record) → IsPlaying qs r self → IfOk result (IsPlaying qs (with_deed r (Starts r.site))) }
+        ensures plays { (qs : List PlaceValue) (r : Record) → IsPlaying qs r self → IfOk result (IsPlaying qs (with_deed r at (Starts r.site))) }
+        ensures fault { result ≢ Err TheFault.NotPlaced }
     {
         let Playing { mut lane, site } = self;
         let site = start(alloc, site.keeper(), lane.name)?;
@@ -103,8 +108,9 @@ impl Playing {
     }
 
     // The site refuses the event before any node is asked.
-    fn decline(&mut self, alloc: Global, at: u64) -> Result<(), PlayFault>
-        ensures { (qs : List PlaceValue) (r : Record) (g : Given) (k : ℕ) → IsPlaying qs r self.old → asked (opening_at r.site) g ≡ Refuses k → OnOk result (IsPlaying qs (with_deed r (Takes r.site g)) self.new) }
+    fn decline(&mut self, alloc: Global, at: u64) -> Result<(), NoMemory>
+        ensures { (qs : List PlaceValue) (r : Record) (g : Given) (k : ℕ) → IsPlaying qs r self.old
+            → asked (opening_at r.site) g ≡ Refuses k → OnOk result (IsPlaying qs (with_deed r at (Takes r.site g)) self.new) }
     {
         self.lane.push(Step::plain(alloc, at))?;
         Ok(())
@@ -120,8 +126,12 @@ impl Playing {
         event: &NodeEvent<'_>,
         needs: Option<Letter>,
     ) -> Result<(), PlayFault>
-        ensures { (r : Record) (g : Given) → IsPlaying places.now r self.old → asked (opening_at r.site) g ≡ Is node (event_of event.now) → Brings (record { site = r.site; node = node }) (event_of event.now) needs
-            → OnOk result (IsPlaying places.now (with_deed r (Takes r.site g)) self.new) }
+        ensures plays { (r : Record) (g : Given) → IsPlaying places.now r self.old
+            → asked (opening_at r.site) g ≡ Is node (event_of event.now) → Brings (record { site = r.site; node = node }) (event_of event.now) needs
+            → OnOk result (IsPlaying places.now (with_deed r at (Takes r.site g)) self.new) }
+        ensures misplaced { (r : Record) (g : Given) → IsPlaying places.now r self.old
+            → asked (opening_at r.site) g ≡ Is node (event_of event.now) → AreArranged places.now → result ≡ Err TheFault.NotPlaced
+            → IsMisplaced places.now r g }
     {
         let mut outs = Outs::new(alloc);
         match self.site.play_into(alloc, node, event, &mut outs) {
@@ -151,13 +161,16 @@ impl Playing {
         at: u64,
         letter: Letter,
     ) -> Result<(), PlayFault>
-        ensures { (r : Record) → IsPlaying places.now r self.old → OnOk result (IsPlaying places.now (with_deed r (Takes r.site (Given.Arrive letter.from letter.to letter.octets))) self.new) }
+        ensures plays { (r : Record) → IsPlaying places.now r self.old
+            → OnOk result (IsPlaying places.now (with_deed r at (Takes r.site (Given.Arrive letter.from letter.to letter.octets))) self.new) }
+        ensures misplaced { (r : Record) → IsPlaying places.now r self.old → AreArranged places.now → result ≡ Err TheFault.NotPlaced
+            → IsMisplaced places.now r (Given.Arrive letter.from letter.to letter.octets) }
     {
-        let Some(rec) = read_whole_peer(alloc, letter.octets.as_slice())? else {
-            return self.decline(alloc, at);
+        let Some(rec) = record_in(alloc, letter.octets.as_slice())? else {
+            return Ok(self.decline(alloc, at)?);
         };
         if !is_name(&letter.to.site, &self.lane.name) {
-            return self.decline(alloc, at);
+            return Ok(self.decline(alloc, at)?);
         }
         let node = letter.to.node;
         let from = letter.from;
@@ -174,7 +187,9 @@ impl Playing {
         at: u64,
         event: Event,
     ) -> Result<(), PlayFault>
-        ensures { (r : Record) → IsPlaying places.now r self.old → OnOk result (IsPlaying places.now (with_deed r (Takes r.site event)) self.new) }
+        ensures plays { (r : Record) → IsPlaying places.now r self.old → OnOk result (IsPlaying places.now (with_deed r at (Takes r.site event)) self.new) }
+        ensures misplaced { (r : Record) → IsPlaying places.now r self.old → AreArranged places.now → result ≡ Err TheFault.NotPlaced
+            → IsMisplaced places.now r event }
     {
         let _rec: Option<&PeerRecord> = None;
         let _request: Option<&Request> = None;

@@ -1,10 +1,12 @@
 //! A recording, as its frames come.
-ghost use Rattle.std.specs.Prelude.{◌≡◌, ◌∷◌, List, IfOk, OnOk};
-ghost use Rattle.tp_deployments.specs.Deployments.{Starts, Takes, Place as PlaceValue};
-ghost use Rattle.tp_weaving.specs.Frames.{Record, Recording as Told, nothing_told, told_place, with_start, told_frame, told_body, first_deed, with_deed, has_record};
+ghost use Rattle.std.specs.Prelude.{◌≡◌, ◌∷◌, suc, List, Some, option_map, IfOk, OnOk};
+ghost use Rattle.tp_model.specs.Transcript.{Done as IsTaken};
+ghost use Rattle.tp_deployments.specs.Deployments.{Starts, Place as PlaceValue};
+ghost use Rattle.tp_weaving.specs.Frames.{Record, Recording as Told, nothing_told, told_place, with_start, with_event, with_records, told_body, first_deed, with_deed, has_record};
 ghost use Rattle.tp_weaving.specs.Weaving.{AreLanes};
-ghost use Rattle.tp_weaving.specs.declared.frame.Frame.{Frame as FrameValue};
-ghost use Rattle.tp_unite.specs.Recording.{IsHeard, Comes, AreWhole, IsLeft};
+ghost use Rattle.tp_unite.specs.Placing.{MisplacesOf};
+ghost use Rattle.tp_unite.specs.Endings.{place_ending, opening_ending, start_ending, event_ending, body_ending};
+ghost use Rattle.tp_unite.specs.Recording.{IsHeard, Answers, AreWhole, IsLeft, Misplaces, fault_at};
 ghost use Rattle.tp_unite.specs.declared.recording.HearFault.{HearFault as TheFault};
 ghost use Rattle.tp_streams.specs.declared.stop.Stop.{Stop as TheStop};
 
@@ -48,7 +50,9 @@ fn put(lanes: &mut Vec<Lane>, lane: Lane) -> Result<(), NoMemory>
 }
 
 // What a fault of a site means in the frame of that number.
-fn fault_at(fault: PlayFault, at: u64) -> HearFault {
+fn fault_at(fault: PlayFault, at: u64) -> HearFault
+    ensures { result ≡ fault_at fault at }
+{
     match fault {
         PlayFault::NotPlaced => HearFault::NotPlaced,
         PlayFault::Full => HearFault::Stop(Stop::Limit {
@@ -91,7 +95,8 @@ impl Recording {
 
     /// Takes the body of the frame with that number.
     pub(crate) fn take(&mut self, alloc: Global, body: &[u8], at: u64) -> Result<(), HearFault>
-        ensures { (t : Told) → IsHeard t self.old → OnOk result (Comes (told_body t body.now) self.new) }
+        ensures { (t : Told) → IsHeard t self.old → at ≡ suc t.count
+            → Answers at (body_ending t body.now) (told_body t body.now) (Misplaces t body.now) result self.new }
     {
         let Some(frame) = read_frame(alloc, body)? else {
             return Err(HearFault::Stop(Stop::BadInput { at, why: Why::Body }));
@@ -112,7 +117,7 @@ impl Recording {
         under: Option<u16>,
         site: SiteName,
     ) -> Result<(), HearFault>
-        ensures { (t : Told) → IsHeard t self.old → OnOk result (Comes (told_place t node under site) self.new) }
+        ensures { (t : Told) → IsHeard t self.old → Answers at (place_ending at t node under site) (told_place t node under site) ⊥ result self.new }
     {
         if self.playing.is_some() {
             return Err(HearFault::Stop(Stop::BadInput { at, why: Why::Body }));
@@ -131,7 +136,8 @@ impl Recording {
 
     // The first process of a site that did not come before.
     fn open(&mut self, alloc: Global, at: u64, name: SiteName) -> Result<(), HearFault>
-        ensures { (t : Told) → AreWhole t self.old → OnOk result (IsHeard (record { places = t.places; records = first_deed name ∷ t.records }) self.new) }
+        ensures { (t : Told) → AreWhole t self.old
+            → Answers at (opening_ending at t name) (Some (with_records t (first_deed at name ∷ t.records))) ⊥ result self.new }
     {
         if is_among(self.lanes.as_slice(), &name) {
             return Err(HearFault::Stop(Stop::BadInput { at, why: Why::Name }));
@@ -153,7 +159,8 @@ impl Recording {
 
     // The next process of the site that is played.
     fn go_on(&mut self, alloc: Global, at: u64, playing: Playing) -> Result<(), HearFault>
-        ensures { (t : Told) (r : Record) (rs : List Record) → IsLeft t r rs playing self.old → OnOk result (IsHeard (record { places = t.places; records = with_deed r (Starts r.site) ∷ rs }) self.new) }
+        ensures { (t : Told) (r : Record) (rs : List Record) → IsLeft t r rs playing self.old
+            → Answers at IsTaken (Some (with_records t (with_deed r at (Starts r.site) ∷ rs))) ⊥ result self.new }
     {
         match playing.next(alloc, at) {
             Ok(next) => {
@@ -166,7 +173,8 @@ impl Recording {
 
     // A process of that site starts.
     fn start(&mut self, alloc: Global, at: u64, name: SiteName) -> Result<(), HearFault>
-        ensures { (t : Told) → IsHeard t self.old → OnOk result (IsHeard (record { places = t.places; records = with_start t.records name }) self.new) }
+        ensures { (t : Told) → IsHeard t self.old
+            → Answers at (start_ending at t name) (Some (with_records t (with_start t.records at name))) ⊥ result self.new }
     {
         let Some(playing) = self.playing.take() else {
             return self.open(alloc, at, name);
@@ -180,7 +188,9 @@ impl Recording {
 
     // The process that started last is given that event.
     fn give(&mut self, alloc: Global, at: u64, event: Event) -> Result<(), HearFault>
-        ensures { (t : Told) → IsHeard t self.old → OnOk result (Comes (told_frame t (FrameValue.Takes event)) self.new) }
+        ensures { (t : Told) → IsHeard t self.old
+            → Answers at (event_ending at t) (option_map (with_records t) (with_event t.records at event))
+            (MisplacesOf t.places t.records event) result self.new }
     {
         let Some(playing) = &mut self.playing else {
             return Err(HearFault::Stop(Stop::BadInput { at, why: Why::Body }));

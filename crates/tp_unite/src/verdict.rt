@@ -1,6 +1,6 @@
 //! The verdict over a recording.
 ghost use Rattle.std.specs.Prelude.{◌≡◌, ◌≤◌, ℕ, List, Some, IfOk, IfErr};
-ghost use Rattle.tp_unite.specs.Verdicts.{Hears, Judges};
+ghost use Rattle.tp_unite.specs.Verdicts.{Hears, Judges, Stops};
 ghost use Rattle.tp_unite.specs.declared.verdict.Heard.{Heard as TheHeard};
 
 use crate::recording::{HearFault, Recording};
@@ -34,6 +34,7 @@ pub(crate) enum Heard {
 // Reads all frames, and plays the sites.
 fn hear<S: Source>(alloc: Global, source: &mut S) -> Result<Heard, Stop>
     ensures hears { IfOk result (λ heard. (bytes : List ℕ) → S.left source.old ≡ Some bytes → Hears bytes heard) }
+    ensures stops { IfErr result (Stops (S.left source.old) (S.fault_count source.old) (S.fault_count source.new)) }
     ensures kept { S.fault_count source.old ≤ S.fault_count source.new }
 {
     let mut intake = Intake::new(alloc);
@@ -69,7 +70,20 @@ pub fn unite<S: Source>(alloc: Global, source: &mut S) -> Result<Verdict, Stop>
     //   a deployment, the bytes are whole frames, the places are arranged as is asked above, no site
     //   has two records, and there is an order of all deeds, in which those of each site stand as
     //   they were recorded, that is a deployment; so all above holds of it
+    // Promise 22.25 [tp_unite/specs/Verdicts.antt]: **Where it is that an event is not placed, or a
+    //   record not carried, no order of all deeds, in which those of each site stand as they were
+    //   recorded, is a deployment.** Not placed: the event in the frame that is named happens at a
+    //   node that has no place, or declares it under another superior than its place has, or names a
+    //   node that has no place; and whatever other frames come after that one, there is no such order.
+    //   Not carried: the frame that is named tells the first deed of its site that no order of some of
+    //   the deeds reaches that is a deployment, and one reaches all before it
     ensures judges { IfOk result (λ verdict. (bytes : List ℕ) → S.left source.old ≡ Some bytes → Judges bytes verdict) }
+    // Promise 22.26 [tp_unite/specs/Verdicts.antt, tp_unite/specs/Endings.antt]: Without a verdict,
+    //   the answer names the first frame that is none of a recording, with the reason; or the first
+    //   that passes the limit of sites or of nodes; or the limit of a log, in a frame up to which each
+    //   frame is one of a recording and passes no other limit; or the source failed, and its count rose;
+    //   or memory ran out
+    ensures stops { IfErr result (Stops (S.left source.old) (S.fault_count source.old) (S.fault_count source.new)) }
     ensures kept { S.fault_count source.old ≤ S.fault_count source.new }
 {
     match hear(alloc, source)? {

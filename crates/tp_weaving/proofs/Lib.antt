@@ -3,3 +3,4 @@ pub mod Parts
 pub mod Grown
 pub mod Taken
 pub mod Lanes
+pub mod Most

@@ -1,8 +1,9 @@
 -- The frames of a recording, and what they tell: where nodes stand, and of each site what its processes were given, one process after
 -- the other.
-use Rattle.std.specs.Prelude.{ℕ, ◌+◌, ◌*◌, ◌==◌, ◌&&◌, Bool, true, false, Option, Some, None, option_map, List, [], ◌∷◌, length}
+use Rattle.std.specs.Prelude.{ℕ, suc, ◌+◌, ◌*◌, ◌==◌, ◌&&◌, Bool, true, false, Option, Some, None, option_map, List, [], ◌∷◌, length}
 use Rattle.tp_names.specs.Bytes.{is_site_name}
 use Rattle.tp_names.specs.Same.{is_name}
+use Rattle.tp_records.specs.declared.body.Event.{Event as Given}
 use Rattle.tp_records.specs.BodyReading.{event_in}
 use Rattle.tp_deployments.specs.Deployments.{Deed, Starts, Takes, Place as APlace}
 use Rattle.tp_weaving.specs.declared.frame.Frame.{Frame}
@@ -42,47 +43,56 @@ frame_in (code ∷ rest) = elim (code == 80) [
 
 -- ---- what they tell
 
--- what the processes of a site did, the newest deed first
+-- what the processes of a site did, the newest deed first, and the number of the frame that tells each deed
 pub record Record : Type 0 where
   pub site : List ℕ
   pub deeds : List Deed
+  pub frames : List ℕ
 
--- where nodes stand, the newest first; and of each site its record, the newest first
+-- how many frames there were; where nodes stand, the newest first; and of each site its record, the newest first
 pub record Recording : Type 0 where
+  pub count : ℕ
   pub places : List APlace
   pub records : List Record
 
 abbrev pub nothing_told : Recording
-nothing_told = record { places = []; records = [] }
+nothing_told = record { count = 0; places = []; records = [] }
 
-abbrev pub with_deed : Record → Deed → Record
-with_deed r d = record { site = r.site; deeds = d ∷ r.deeds }
+-- by the frame of that number
+abbrev pub with_deed : Record → ℕ → Deed → Record
+with_deed r at d = record { site = r.site; deeds = d ∷ r.deeds; frames = at ∷ r.frames }
 
-abbrev pub first_deed : List ℕ → Record
-first_deed s = record { site = s; deeds = Starts s ∷ [] }
+abbrev pub first_deed : ℕ → List ℕ → Record
+first_deed at s = record { site = s; deeds = Starts s ∷ []; frames = at ∷ [] }
 
 -- a process of the site whose process started last, or the first one of another site
-abbrev pub with_start : List Record → List ℕ → List Record
-with_start [] s = first_deed s ∷ []
-with_start (r ∷ rs) s = elim (is_name r.site s) [ true ↦ with_deed r (Starts r.site) ∷ rs | false ↦ first_deed s ∷ r ∷ rs ]
+abbrev pub with_start : List Record → ℕ → List ℕ → List Record
+with_start [] at s = first_deed at s ∷ []
+with_start (r ∷ rs) at s = elim (is_name r.site s) [ true ↦ with_deed r at (Starts r.site) ∷ rs | false ↦ first_deed at s ∷ r ∷ rs ]
+
+abbrev pub with_event : List Record → ℕ → Given → Option (List Record)
+with_event [] at g = None
+with_event (r ∷ rs) at g = Some (with_deed r at (Takes r.site g) ∷ rs)
+
+-- one frame more
+abbrev pub with_records : Recording → List Record → Recording
+with_records t rs = record { count = suc t.count; places = t.places; records = rs }
 
 -- places come before all deeds
 abbrev pub told_place : Recording → ℕ → Option ℕ → List ℕ → Option Recording
 told_place t n under s = elim t.records [
-  | [] ↦ option_map (λ qs. record { places = qs; records = [] }) (placed t.places n under s)
+  | [] ↦ option_map (λ qs. record { count = suc t.count; places = qs; records = [] }) (placed t.places n under s)
   | r ∷ rs ↦ None
 ]
 
-abbrev pub told_frame : Recording → Frame → Option Recording
-told_frame t (Frame.Place n under s) = told_place t n under s
-told_frame t (Frame.Starts s) = Some (record { places = t.places; records = with_start t.records s })
-told_frame t (Frame.Takes g) = elim t.records [
-  | [] ↦ None
-  | r ∷ rs ↦ Some (record { places = t.places; records = with_deed r (Takes r.site g) ∷ rs })
-]
+-- the frame of that number
+abbrev pub told_frame : ℕ → Recording → Frame → Option Recording
+told_frame at t (Frame.Place n under s) = told_place t n under s
+told_frame at t (Frame.Starts s) = Some (with_records t (with_start t.records at s))
+told_frame at t (Frame.Takes g) = option_map (with_records t) (with_event t.records at g)
 
 abbrev pub told_body : Recording → List ℕ → Option Recording
-told_body t body = elim (frame_in body) [ None ↦ None | Some f ↦ told_frame t f ]
+told_body t body = elim (frame_in body) [ None ↦ None | Some f ↦ told_frame (suc t.count) t f ]
 
 abbrev pub told_from : Recording → List (List ℕ) → Option Recording
 told_from t [] = Some t

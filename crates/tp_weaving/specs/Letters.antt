@@ -1,15 +1,37 @@
--- Letters as keys of tables: their test is equality.
-use Rattle.std.specs.Prelude.{ℕ, ◌≡◌, ◌==◌, ◌&&◌, Bool, true, false, List, [], ◌∷◌}
+-- Letters: those that a node says; and as keys of tables: their test is equality.
+use Rattle.std.specs.Prelude.{ℕ, ◌≡◌, ◌==◌, ◌&&◌, Bool, true, false, Some, List, [], ◌∷◌}
 use Rattle.std.specs.Cmp.{IsEquivalence}
 use Rattle.std.proofs.Common.{refl, sym, ◌∙◌, ap}
 use Rattle.tp_names.specs.declared.identifiers.Addr.{Addr}
 use Rattle.tp_names.specs.declared.identifiers.Mark.{Mark}
 use Rattle.tp_names.specs.Same.{is_name, is_addr}
+use Rattle.tp_records.specs.declared.peer.PeerRecord.{PeerRecord}
+use Rattle.tp_records.specs.Bodies.{peer_bytes}
+use Rattle.tp_records.specs.BodyReading.{peer_in}
+use Rattle.tp_model.specs.Parts.{Out}
 use Rattle.tp_names.proofs.Sames.{both, name_same, name_self, mark_same}
 use Rattle.tp_weaving.specs.declared.letter.Letter.{Letter}
 
 abbrev pub is_letter : Letter → Letter → Bool
 is_letter a b = is_name a.octets b.octets && (is_addr a.from b.from && is_addr a.to b.to)
+
+-- ---- what a node says
+
+-- the letter in which the node at the one address says that to the other
+abbrev pub letter_to : Addr → Addr → PeerRecord → Letter
+letter_to from to r = record { from = from; to = to; octets = peer_bytes r }
+
+-- those among the outputs of the node at that address
+abbrev pub letters_in : Addr → List Out → List Letter
+letters_in from [] = []
+letters_in from (Out.Tell i ∷ outs) = letters_in from outs
+letters_in from (Out.Send to r ∷ outs) = letter_to from to r ∷ letters_in from outs
+
+-- each of them is read back
+abbrev pub AreRead : List Out → Type 0
+AreRead [] = Unit {0}
+AreRead (Out.Tell i ∷ outs) = AreRead outs
+AreRead (Out.Send to r ∷ outs) = (peer_in (peer_bytes r) ≡ Some r) × AreRead outs
 
 -- ---- addresses
 

@@ -1,11 +1,10 @@
 //! The one order of the steps of several sites.
-ghost use Rattle.std.specs.Prelude.{ℕ, ◌≡◌, ◌≢◌, ◌⊎◌, ◌<◌, true, false, List, length, IfOk, IfSome, OnOk};
+ghost use Rattle.std.specs.Prelude.{◌≡◌, ◌<◌, false, List, length, IfOk, OnOk};
 ghost use Rattle.tp_deployments.specs.Deployments.{Place as PlaceValue};
 ghost use Rattle.tp_weaving.specs.Frames.{Record};
 ghost use Rattle.tp_weaving.specs.Parts.{AreApart};
 ghost use Rattle.tp_weaving.specs.Said.{is_said};
-ghost use Rattle.tp_weaving.specs.Weaving.{AreLanes, Advances, IsHeld, IsOneOf, Way, waiting, number_next, earlier, woven_of, Ends};
-ghost use Rattle.tp_weaving.specs.declared.letter.Letter.{Letter as TheLetter};
+ghost use Rattle.tp_weaving.specs.Weaving.{AreLanes, Advances, StaysAt, AreStuck, is_held, Says, Way, waiting, number_next, earlier, woven_of, Ends};
 
 use crate::said::Said;
 use crate::{Lane, Letter};
@@ -23,7 +22,7 @@ pub enum Woven {
 
 // What is needed was said.
 fn is_held(said: &Said, needs: &Option<Letter>) -> bool
-    ensures { result ≡ true → IsHeld (is_said said.now) needs.now }
+    ensures { result ≡ is_held (is_said said.now) needs.now }
 {
     match needs {
         None => true,
@@ -33,7 +32,7 @@ fn is_held(said: &Said, needs: &Option<Letter>) -> bool
 
 // These letters are said.
 fn say(alloc: Global, said: &mut Said, says: &[Letter]) -> Result<(), NoMemory>
-    ensures { OnOk result ((l : TheLetter) → is_said said.new l ≡ true → (is_said said.old l ≡ true) ⊎ IsOneOf l says.now) }
+    ensures { OnOk result (Says said.old said.new says.now) }
 {
     match says {
         [] => Ok(()),
@@ -62,7 +61,9 @@ fn say_next(alloc: Global, said: &mut Said, lane: &Lane) -> Result<bool, NoMemor
 // The next step of that lane is taken, where there is one that may come. It tells whether it was.
 fn take(alloc: Global, said: &mut Said, lanes: &mut [Lane], k: usize) -> Result<bool, NoMemory>
     requires { k < length lanes.old }
-    ensures way { IfOk result (λ moved. (qs : List PlaceValue) (rs : List Record) → Way qs rs (is_said said.old) lanes.old → Way qs rs (is_said said.new) lanes.new) }
+    ensures way { IfOk result (λ moved. (qs : List PlaceValue) (rs : List Record) → Way qs rs (is_said said.old) lanes.old
+        → Way qs rs (is_said said.new) lanes.new) }
+    ensures stuck { IfOk result (λ moved. moved ≡ false → StaysAt k said.old lanes.old said.new lanes.new) }
     ensures length { length lanes.new ≡ length lanes.old }
 {
     if !say_next(alloc, said, &lanes[k])? {
@@ -72,30 +73,16 @@ fn take(alloc: Global, said: &mut Said, lanes: &mut [Lane], k: usize) -> Result<
     Ok(true)
 }
 
-// A lane goes on as far as it can. It tells whether it went on at all.
-fn go_on(alloc: Global, said: &mut Said, lanes: &mut [Lane], k: usize) -> Result<bool, NoMemory>
-    requires { k < length lanes.old }
-    ensures way { IfOk result (λ moved. (qs : List PlaceValue) (rs : List Record) → Way qs rs (is_said said.old) lanes.old → Way qs rs (is_said said.new) lanes.new) }
-    ensures length { length lanes.new ≡ length lanes.old }
-{
-    let mut moved = false;
-    'steps: for _ in 0..u64::MAX {
-        if !take(alloc, said, lanes, k)? {
-            return Ok(moved);
-        }
-        moved = true;
-    }
-    Ok(moved)
-}
-
-// Each lane goes on as far as it can. It tells whether one went on.
+// Each lane goes on by a step, where it can. It tells whether one went on.
 fn go_round(alloc: Global, said: &mut Said, lanes: &mut [Lane]) -> Result<bool, NoMemory>
-    ensures way { IfOk result (λ moved. (qs : List PlaceValue) (rs : List Record) → Way qs rs (is_said said.old) lanes.old → Way qs rs (is_said said.new) lanes.new) }
+    ensures way { IfOk result (λ moved. (qs : List PlaceValue) (rs : List Record) → Way qs rs (is_said said.old) lanes.old
+        → Way qs rs (is_said said.new) lanes.new) }
+    ensures stuck { IfOk result (λ moved. moved ≡ false → AreStuck (is_said said.new) lanes.new) }
     ensures length { length lanes.new ≡ length lanes.old }
 {
     let mut moved = false;
     for k in 0..lanes.len() {
-        if go_on(alloc, said, lanes, k)? {
+        if take(alloc, said, lanes, k)? {
             moved = true;
         }
     }
@@ -144,8 +131,11 @@ fn woven_of(lanes: &[Lane]) -> Woven
 }
 
 // Promise 22.21 [tp_weaving/specs/Weaving.antt]: Steps that sites took, each with the letter that
-//   it needs and those that it says, are put into such an order, where `weave` says so
-/// Puts the steps of the sites into one order, in which what a step takes was said before; or tells where none goes on.
+//   it needs and those that it says, are put into such an order, where `weave` says so; where it
+//   names a frame instead, some of the steps make an order that is a deployment, no other reaches a
+//   step more of any site, and that frame tells the first step of its site that none reaches
+/// Puts the steps of the sites into one order, in which what a step takes was said before; or tells where none goes on. That is the first
+/// frame, by its number, of those that no order reaches, one of each site that waits.
 pub fn weave(alloc: Global, lanes: &mut [Lane]) -> Result<Woven, NoMemory>
     ensures { IfOk result (λ woven. (qs : List PlaceValue) (rs : List Record) → AreApart rs → AreLanes qs rs lanes.old → Ends qs rs woven) }
 {
@@ -155,5 +145,5 @@ pub fn weave(alloc: Global, lanes: &mut [Lane]) -> Result<Woven, NoMemory>
             return Ok(woven_of(lanes));
         }
     }
-    Ok(woven_of(lanes))
+    Err(NoMemory)
 }

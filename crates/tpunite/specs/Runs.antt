@@ -1,9 +1,10 @@
 -- What a run does, by how it ends: it writes the line of its verdict, or a prefix of it where the sink fails, or nothing.
 use Rattle.std.specs.Prelude.{ℕ, ◌≡◌, Option, Some, List, [], ◌∷◌, ◌++◌, codes}
 use Rattle.tp_model.specs.Words.{decimal, words}
+use Rattle.tp_streams.specs.declared.stop.Stop.{Stop}
 use Rattle.tp_streams.specs.Written.{WritesPrefix}
 use Rattle.tp_unite.specs.declared.verdict.Verdict.{Verdict}
-use Rattle.tp_unite.specs.Verdicts.{Judges}
+use Rattle.tp_unite.specs.Verdicts.{Judges, Stops}
 use Rattle.tpunite.specs.declared.status.Status.{Status}
 
 abbrev pub verdict_words : Verdict → List (List ℕ)
@@ -65,3 +66,16 @@ IsStopped (Status.Limit what at) = Unit {0}
 IsStopped (Status.ReadFault faults) = Unit {0}
 IsStopped (Status.WriteFault faults) = ⊥
 IsStopped Status.NoMemory = Unit {0}
+
+-- ---- without a verdict
+
+-- why, by what the source had left and by its counts of faults before and after
+abbrev pub IsUnjudged : Option (List ℕ) → ℕ → ℕ → Status → Type 0
+IsUnjudged left old new Status.Ok = Unit {0}
+IsUnjudged left old new Status.Findings = Unit {0}
+IsUnjudged left old new Status.Usage = Unit {0}
+IsUnjudged left old new (Status.BadInput at why) = Stops left old new (Stop.BadInput at why)
+IsUnjudged left old new (Status.Limit what at) = Stops left old new (Stop.Limit what at)
+IsUnjudged left old new (Status.ReadFault faults) = Stops left old new (Stop.ReadFault faults)
+IsUnjudged left old new (Status.WriteFault faults) = Unit {0}
+IsUnjudged left old new Status.NoMemory = Unit {0}

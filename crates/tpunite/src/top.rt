@@ -1,19 +1,23 @@
 //! The program's one call.
-ghost use Rattle.std.specs.Prelude.{◌≡◌, ◌≢◌, ◌↔◌, ◌++◌, IfOk, OnOk};
-ghost use Rattle.tpunite.specs.Runs.{verdict_line, status_after, Runs, IsStopped, Writes};
+ghost use Rattle.std.specs.Prelude.{ℕ, ◌≡◌, ◌≢◌, ◌↔◌, ◌++◌, [], List, Option, IfOk, OnOk};
+ghost use Rattle.tp_model.specs.Words.{words};
+ghost use Rattle.tp_text_builder.specs.Written.{Adds};
+ghost use Rattle.tp_unite.specs.Verdicts.{Stops};
+ghost use Rattle.tpunite.specs.Runs.{verdict_words, verdict_line, status_after, Runs, IsStopped, IsUnjudged, Writes};
 ghost use Rattle.tpunite.specs.declared.status.Status.{Status as TheStatus};
 
 use crate::Status;
 use std::alloc::Global;
 use tp_names::{NoMemory, Octets};
 use tp_outside::{Sink, Source};
-use tp_schedule::word::{Word, write_alone, write_words};
 use tp_streams::{Stop, write_all};
+use tp_text_builder::Text;
 use tp_unite::{Verdict, unite};
 
 // How a program ends that stops so. What comes of a log on a disk does not come here.
 fn status_of(stop: Stop) -> Status
-    ensures { IsStopped result }
+    ensures stopped { IsStopped result }
+    ensures unjudged { (left : Option (List ℕ)) (old new : ℕ) → Stops left old new stop → IsUnjudged left old new result }
 {
     match stop {
         Stop::BadInput { at, why } => Status::BadInput { at, why },
@@ -36,16 +40,26 @@ fn status_after(verdict: Verdict) -> Status
 fn write_verdict(alloc: Global, verdict: Verdict, out: &mut Octets) -> Result<(), NoMemory>
     ensures { OnOk result (out.new ≡ out.old ++ verdict_line verdict) }
 {
+    let mut text = Text::after(alloc, out);
+    put_verdict(verdict, &mut text);
+    text.byte(b'\n');
+    text.done(out)
+}
+
+fn put_verdict(verdict: Verdict, text: &mut Text)
+    ensures { Adds text.old (words (verdict_words verdict)) text.new }
+{
     match verdict {
-        Verdict::Deployment => write_alone(alloc, "deployment", out)?,
+        Verdict::Deployment => text.word("deployment"),
         Verdict::NotPlaced { at } => {
-            write_words(alloc, &[Word::Text("not-placed"), Word::Long(at)], out)?;
+            text.word("not-placed");
+            text.next_number(at);
         }
         Verdict::NotCarried { at } => {
-            write_words(alloc, &[Word::Text("not-carried"), Word::Long(at)], out)?;
+            text.word("not-carried");
+            text.next_number(at);
         }
     }
-    out.push(alloc, b'\n')
 }
 
 // The line of a verdict.
@@ -77,6 +91,7 @@ fn report<K: Sink>(alloc: Global, verdict: Verdict, sink: &mut K) -> Status
 fn judge<S: Source, K: Sink>(alloc: Global, source: &mut S, sink: &mut K) -> Status
     ensures usage { result ≢ TheStatus.Usage }
     ensures runs { Runs (S.left source.old) result (K.written sink.old) (K.written sink.new) }
+    ensures unjudged { IsUnjudged (S.left source.old) (S.fault_count source.old) (S.fault_count source.new) result }
 {
     match unite(alloc, source) {
         Ok(verdict) => report(alloc, verdict, sink),
@@ -95,8 +110,13 @@ pub fn run<S: Source, K: Sink>(
     source: &mut S,
     sink: &mut K,
 ) -> Status
+    // Promise 22.27 [clauses usage unjudged, tpunite/specs/Runs.antt]: It ends with usage exactly where a
+    //   word is given; and where there is no verdict, its status names the frame and the reason or the
+    //   limit, or the count of its source, which rose, as 22.26 says
+    ensures usage { (result ≡ TheStatus.Usage) ↔ (words.now ≢ []) }
     ensures unread { result ≡ TheStatus.Usage → source.new ≡ source.old }
     ensures runs { Runs (S.left source.old) result (K.written sink.old) (K.written sink.new) }
+    ensures unjudged { IsUnjudged (S.left source.old) (S.fault_count source.old) (S.fault_count source.new) result }
 {
     if !words.is_empty() {
         return Status::Usage;

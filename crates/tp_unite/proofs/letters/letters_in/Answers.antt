@@ -1,14 +1,11 @@
--- All outputs are among them, and at first there is no letter.
-use Rattle.std.proofs.Common.{List, sym, subst}
-use Rattle.std.specs.List.{AllByRecursion}
+-- At first there is no letter.
+use Rattle.std.proofs.Common.{List, subst}
 use Rattle.tp_model.specs.Parts.{Out}
-use Rattle.tp_histories.specs.Histories.{IsSentIn}
 use Rattle.tp_weaving.specs.declared.letter.Letter.{Letter}
-use Rattle.tp_unite.specs.Said.{IsLetterIn}
+use Rattle.tp_unite.specs.Said.{AddsLetters}
 use Rattle.tp_unite.proofs.letters.letters_in.Goals as goal
 
 pub returns : goal.returns
 returns c =
-    let outs = c.args.outs.now in
-    c.in_ok-add_letters.ensures outs (λ a r sent. subst (λ (os : List Out). IsSentIn os a r) c.as_slice.ensures sent)
-    (subst (λ (ls : List Letter). AllByRecursion (IsLetterIn outs c.args.from.now) ls) (sym c.new-letters.ensures.items) tt)
+    subst (λ (ls : List Letter). AddsLetters c.args.from.now c.args.outs.now ls c.add_letters.new.letters.items) c.new-letters.ensures.items
+    (subst (λ (os : List Out). AddsLetters c.args.from.now os c.new-letters.result.items c.add_letters.new.letters.items) c.as_slice.ensures c.in_ok-add_letters.ensures)

@@ -6,8 +6,9 @@ use Rattle.tp_unite.specs.Playing.{StartsOn}
 use Rattle.tp_unite.proofs.Played.{next_played}
 use Rattle.tp_unite.proofs.playing.Playing.next.Goals as goal
 
-pub returns : goal.returns
-returns c = λ qs r is.
+pub returns-clause-plays : goal.returns-clause-plays
+returns-clause-plays c = λ qs r is.
     let added = c.in_ok-push.ensures in
-    let started = subst (λ (j : Kept MemDisk). StartsOn j c.args.self.lane.name c.in_ok-site.site) c.keeper.ensures c.in_ok-site.ensures in
-    next_played qs r c.args.self c.push.new.self c.in_ok-site.site c.plain.result is started added.name added.taken added.steps c.plain.ensures.says
+    let plain = c.plain.ensures in
+    let started = subst (λ (j : Kept MemDisk). StartsOn j c.args.self.lane.name c.in_ok-site.site) c.keeper.ensures c.in_ok-site.ensures.starts in
+    next_played qs r c.args.self c.push.new.self c.in_ok-site.site c.plain.result c.args.at is started added.name added.taken added.steps (record { says = plain.says; needs = plain.needs }) plain.at
