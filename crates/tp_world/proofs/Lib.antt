@@ -1,7 +1,7 @@
 pub mod lemmas
 mod Stood
 mod SummaryTold
-mod Tellings
+pub mod Tellings
 mod Limits
 mod Outputs
 mod EntryTurns

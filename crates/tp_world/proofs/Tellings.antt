@@ -143,7 +143,7 @@ line_same t ns xs h =
     ∙ ap (λ (b : Bool). elim (some_told Outcome.Commit t (members_of t ns) && some_told Outcome.Rollback t (members_of t ns)) as (λ _. OutLine) [ true ↦ OutLine.Mixed t (deciders t (members_of t ns)) | false ↦ agreed_by t b (all_told_at Outcome.Rollback t xs) ]) (all_same Outcome.Commit t ns xs h)
     ∙ ap (λ (b : Bool). elim (some_told Outcome.Commit t (members_of t ns) && some_told Outcome.Rollback t (members_of t ns)) as (λ _. OutLine) [ true ↦ OutLine.Mixed t (deciders t (members_of t ns)) | false ↦ agreed_by t (all_told Outcome.Commit t (members_of t ns)) b ]) (all_same Outcome.Rollback t ns xs h)
 
-lines_same : (ns : List Node) (xs : List NodeSlot) (ts : List Aaid) → AreNodes ns xs → closing_at xs ts ≡ closing_from ns ts
+pub lines_same : (ns : List Node) (xs : List NodeSlot) (ts : List Aaid) → AreNodes ns xs → closing_at xs ts ≡ closing_from ns ts
 lines_same ns xs [] h = refl
 lines_same ns xs (t ∷ ts) h = ap (λ (l : OutLine). l ∷ closing_at xs ts) (line_same t ns xs h) ∙ ap (λ (l : List OutLine). closing_line t (members_of t ns) ∷ l) (lines_same ns xs ts h)
 
