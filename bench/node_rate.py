@@ -12,6 +12,7 @@ two. No proof and no test depends on it.
 Site b is given the frames of a node that takes part in one transaction after another: it begins, is told to prepare, votes,
 is told to commit, and is done. A carrier gives it so many events and goes on as answers come, one new event for each. The loop
 forces the very records that the node left, as many with each pair of syncs as the node had in a batch, and the files are compared.
+Where the folder is on a device of its own (a file system in a loop device, say) it also counts how often the device was flushed.
 
 The program is crates/tpnode/out/tpnode, which `rt run` in that crate builds, or the one that the variable TPNODE names.
 """
@@ -149,6 +150,14 @@ def seconds(words):
     return time.monotonic() - start
 
 
+def flushes(folder):
+    """How often the device of that folder was flushed so far; 0 where the system does not count it."""
+    device = os.stat(folder).st_dev
+    counts = pathlib.Path("/sys/dev/block/%d:%d/stat" % (os.major(device), os.minor(device)))
+    words = counts.read_text().split() if counts.exists() else []
+    return int(words[15]) if len(words) > 15 else 0
+
+
 def rows(folder=".", transactions=100, rounds=20):
     folder, transactions, rounds = pathlib.Path(folder).resolve(), int(transactions), int(rounds)
     given = frames(transactions)
@@ -160,18 +169,26 @@ def rows(folder=".", transactions=100, rounds=20):
         subprocess.run(["cc", "-O2", "-o", loop, source], check=True)
         log, copy = pathlib.Path(where) / "tp.log", pathlib.Path(where) / "copy.log"
         for most in (1, 16, 64):
-            by_node, by_loop = [], []
+            by_node, by_loop, flushed, flushed_by_loop = [], [], 0, 0
             for _ in range(rounds):
                 log.write_bytes(FRESH)
+                os.sync()
+                before = flushes(where)
                 taken, batches = carried(given, most, where)
                 by_node.append(taken)
+                flushed += flushes(where) - before
                 # A node that is given one event at a time has a record in three of five batches.
                 together = 1 if most == 1 else max(1, round(records / batches))
+                before = flushes(where)
                 by_loop.append(seconds([loop, log, copy, str(together)]))
+                flushed_by_loop += flushes(where) - before
                 if log.read_bytes() != copy.read_bytes():
                     sys.exit("the two files differ")
             node, beside = (records / statistics.median(times) for times in (by_node, by_loop))
             yield "`node` on a real file", "records forced in a second, events under way: %d" % most, node, beside, "C with as many pairs of syncs"
+            if flushed:
+                forced = records * rounds
+                yield "the same", "flushes of its device for a record", flushed / forced, flushed_by_loop / forced, "the same"
 
 
 if __name__ == "__main__":
