@@ -132,9 +132,9 @@ impl Audit {
         Ok(())
     }
 
-    // Promise 9.4: The verdict is yes exactly where no two nodes of a tree ended apart that took no
-    //   decision of their own; else it names the first that clashes with a later one, and the first
-    //   later one with which it clashes
+    // Promise 9.4: The verdict is yes exactly where no two keys of one tree, each without a
+    //   decision of its node's own, ended apart; else it names the node of the first key that
+    //   clashes with a later one, and that of the first later one with which it clashes
     /// Whether two nodes of one tree ended apart, but for such as took a decision of their own; and the first that clashes with
     /// a later one, and the first later one with which it clashes. All records count, those before an End too.
     pub fn verdict(&self) -> Verdict

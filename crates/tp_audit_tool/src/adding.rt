@@ -32,7 +32,8 @@ pub(crate) fn add_log(
     site: &SiteName,
     bytes: Octets,
 ) -> Result<(), Stop>
-    ensures ok { IsFile bytes → OnOk result ((logs : List SiteLog) → is_added logs site.now ≡ false → IsAuditOf logs audit.old → Adds logs site.now (opened bytes) audit.new) }
+    ensures ok { IsFile bytes → OnOk result
+        ((logs : List SiteLog) → is_added logs site.now ≡ false → IsAuditOf logs audit.old → Adds logs site.now (opened bytes) audit.new) }
     ensures err { IsFile bytes → IfErr result (IsRefused (opened bytes)) }
     ensures kinds { (number : ℕ) → IfErr result (IsOfInput number) }
 {

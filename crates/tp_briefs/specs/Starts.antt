@@ -35,4 +35,5 @@ pub record RunAlike (s : List ℕ) (version : LogVersion) (rs qs : List LogRec) 
   pub next : StartAlike (on s version (log_on s version rs gs)) (on s version (log_on s version qs gs))
 
 abbrev pub AlikeRunAlike : Type 0
-AlikeRunAlike = (s : List ℕ) (version : LogVersion) (rs qs : List LogRec) → StartAlike (on s version rs) (on s version qs) → (gs : List Given) → RunAlike s version rs qs gs
+AlikeRunAlike = (s : List ℕ) (version : LogVersion) (rs qs : List LogRec) → StartAlike (on s version rs) (on s version qs)
+    → (gs : List Given) → RunAlike s version rs qs gs

@@ -305,7 +305,8 @@ impl Branch {
     /// neither ended nor left.
     pub fn see_branch(&mut self, place: usize, live: bool, ends: bool)
         requires { place < length self.old.rows }
-        ensures { (d : RowValue) → self.new ≡ record self.old { rows = slice_set self.old.rows place (seen_at live ends (slice_index_or self.old.rows place d)) } }
+        ensures { (d : RowValue) → self.new
+            ≡ record self.old { rows = slice_set self.old.rows place (seen_at live ends (slice_index_or self.old.rows place d)) } }
     {
         self.rows.see(place, live, ends);
     }
@@ -314,7 +315,8 @@ impl Branch {
     /// Adds a branch after the others, of which nothing is known but that its arc is live. It takes no memory where there are
     /// fewer than 256; without memory nothing changes.
     pub fn add(&mut self, child: &Child) -> Result<(), NoMemory>
-        ensures added { OnOk result (self.new ≡ record self.old { rows = self.old.rows ++ record { branch = fresh_branch child.now; live = true; ends = false } ∷ [] }) }
+        ensures added { OnOk result (self.new
+            ≡ record self.old { rows = self.old.rows ++ record { branch = fresh_branch child.now; live = true; ends = false } ∷ [] }) }
         ensures memory { length self.old.rows < 256 → result ≡ Ok tt }
         ensures same { OnErr result (self.new ≡ self.old) }
     {

@@ -29,20 +29,26 @@ ghost use Rattle.tp_commit.specs.Standing.{child_on};
 /// that starts on it; and what is known, while the transaction does not roll, stands as it is. Both are in
 /// order among their arcs, where the record names each branch once and its superior as none.
 pub fn a_branch_is_what_is_known()
-    ensures begun { (who : Who) (arcs : List Arc) (k : Key) → is_up_live arcs k ≡ is_under k → is_up_ending arcs k ≡ false → begun who.node k ≡ seen who arcs (fresh_current k) }
-    ensures ready { (who : Who) (k : NodeKey) (s : Addr) (cs : List Child) (o : Option Outcome) → found_by (LogRec.Ready who.node k s cs) o ≡ Some (seen who [] (recovered (key_from k (Some s)) Phase.Ready (fresh_branches cs) o)) }
-    ensures committing { (who : Who) (k : NodeKey) (s : Option Addr) (cs : List Child) (o : Option Outcome) → found_by (LogRec.Commit who.node k s cs) o ≡ Some (seen who [] (recovered (key_from k s) Phase.Committing (fresh_branches cs) o)) }
+    ensures begun { (who : Who) (arcs : List Arc) (k : Key) → is_up_live arcs k ≡ is_under k → is_up_ending arcs k ≡ false
+        → begun who.node k ≡ seen who arcs (fresh_current k) }
+    ensures ready { (who : Who) (k : NodeKey) (s : Addr) (cs : List Child) (o : Option Outcome)
+        → found_by (LogRec.Ready who.node k s cs) o ≡ Some (seen who [] (recovered (key_from k (Some s)) Phase.Ready (fresh_branches cs) o)) }
+    ensures committing { (who : Who) (k : NodeKey) (s : Option Addr) (cs : List Child) (o : Option Outcome)
+        → found_by (LogRec.Commit who.node k s cs) o ≡ Some (seen who [] (recovered (key_from k s) Phase.Committing (fresh_branches cs) o)) }
     ensures stands { (who : Who) (arcs : List Arc) (c : Current) → is_rolling c.phase ≡ false → standing (seen who arcs c) ≡ seen who arcs c }
     ensures begun_in_order { (arcs : List Arc) (k : Key) → is_up_ending arcs k ≡ false → IsAmongArcs arcs (fresh_current k) }
-    ensures found_in_order { (k : Key) (p : Phase) (cs : List Child) (o : Option Outcome) → is_nil p ≡ false → are_distinct (fresh_branches cs) ≡ true → ((q : ℕ) → is_under_at k q ≡ true → has_branch_at (fresh_branches cs) q ≡ false)
+    ensures found_in_order { (k : Key) (p : Phase) (cs : List Child) (o : Option Outcome) → is_nil p ≡ false
+        → are_distinct (fresh_branches cs) ≡ true → ((q : ℕ) → is_under_at k q ≡ true → has_branch_at (fresh_branches cs) q ≡ false)
         → IsAmongArcs [] (recovered k p (fresh_branches cs) o) }
 {}
 
 // Promise 10.11, part 4
 /// A Ready or a Commit that has a text in version 2 of the log tells a transaction, as `Branch::again` requires.
 pub fn a_text_tells_a_transaction()
-    ensures ready { (n : ℕ) (k : NodeKey) (s : Addr) (cs : List Child) → HasText (record_grammar LogVersion.Two) (LogRec.Ready n k s cs) → tells_transaction (LogRec.Ready n k s cs) ≡ true }
-    ensures commit { (n : ℕ) (k : NodeKey) (s : Option Addr) (cs : List Child) → HasText (record_grammar LogVersion.Two) (LogRec.Commit n k s cs) → tells_transaction (LogRec.Commit n k s cs) ≡ true }
+    ensures ready { (n : ℕ) (k : NodeKey) (s : Addr) (cs : List Child) → HasText (record_grammar LogVersion.Two) (LogRec.Ready n k s cs)
+        → tells_transaction (LogRec.Ready n k s cs) ≡ true }
+    ensures commit { (n : ℕ) (k : NodeKey) (s : Option Addr) (cs : List Child)
+        → HasText (record_grammar LogVersion.Two) (LogRec.Commit n k s cs) → tells_transaction (LogRec.Commit n k s cs) ≡ true }
 {}
 
 // Promise 10.12, part 2
@@ -72,14 +78,19 @@ pub fn an_event_changes_its_own_arc()
 pub fn a_branch_stands_behind_every_event()
     ensures asks { (who : Who) (f : TxEvent) (d : Digest) (c : Current) (arcs : List Arc) → IsAmongArcs arcs c → Reaches f c arcs d.arcs
         → step_of (transacted f (seen who arcs c)) ≡ step_of (transacted f (seen who d.arcs c)) }
-    ensures stands { (who : Who) (f : TxEvent) (d : Digest) (c u : Current) (arcs : List Arc) → IsAmongArcs arcs c → Reaches f c arcs d.arcs → IsTakenUp f (seen who arcs c) → (turned who f d c).next.current ≡ Some u
+    ensures stands { (who : Who) (f : TxEvent) (d : Digest) (c u : Current) (arcs : List Arc) → IsAmongArcs arcs c → Reaches f c arcs d.arcs
+        → IsTakenUp f (seen who arcs c) → (turned who f d c).next.current ≡ Some u
         → standing (transacted f (seen who arcs c)).next ≡ seen who (turned who f d c).next.arcs u }
-    ensures keeps { (who : Who) (f : TxEvent) (d : Digest) (c u : Current) (arcs : List Arc) → IsAmongArcs arcs c → Reaches f c arcs d.arcs → IsTakenUp f (seen who arcs c) → (turned who f d c).next.current ≡ Some u
+    ensures keeps { (who : Who) (f : TxEvent) (d : Digest) (c u : Current) (arcs : List Arc) → IsAmongArcs arcs c → Reaches f c arcs d.arcs
+        → IsTakenUp f (seen who arcs c) → (turned who f d c).next.current ≡ Some u
         → IsAmongArcs (turned who f d c).next.arcs u }
-    ensures over { (who : Who) (f : TxEvent) (d : Digest) (c : Current) (arcs : List Arc) → IsAmongArcs arcs c → Reaches f c arcs d.arcs → (turned who f d c).next.current ≡ None
+    ensures over { (who : Who) (f : TxEvent) (d : Digest) (c : Current) (arcs : List Arc) → IsAmongArcs arcs c → Reaches f c arcs d.arcs
+        → (turned who f d c).next.current ≡ None
         → (standing (transacted f (seen who arcs c)).next).phase ≡ Phase.Nil }
-    ensures begins { (who : Who) (p : ℕ) (d : Digest) (c u : Current) (a : Arc) → d.current ≡ Some c → find_arc d.arcs p ≡ Some a → may_begin_on who d a ≡ true → (begin_on who p d).next.current ≡ Some u
+    ensures begins { (who : Who) (p : ℕ) (d : Digest) (c u : Current) (a : Arc) → d.current ≡ Some c → find_arc d.arcs p ≡ Some a
+        → may_begin_on who d a ≡ true → (begin_on who p d).next.current ≡ Some u
         → standing (transacted (TxEvent.Begun (child_on who d a ∷ [])) (seen who d.arcs c)).next ≡ seen who (begin_on who p d).next.arcs u }
-    ensures begins_keep { (who : Who) (p : ℕ) (d : Digest) (c u : Current) (a : Arc) → IsAmongArcs d.arcs c → d.current ≡ Some c → find_arc d.arcs p ≡ Some a → may_begin_on who d a ≡ true → (begin_on who p d).next.current ≡ Some u
+    ensures begins_keep { (who : Who) (p : ℕ) (d : Digest) (c u : Current) (a : Arc) → IsAmongArcs d.arcs c → d.current ≡ Some c
+        → find_arc d.arcs p ≡ Some a → may_begin_on who d a ≡ true → (begin_on who p d).next.current ≡ Some u
         → IsAmongArcs (begin_on who p d).next.arcs u }
 {}

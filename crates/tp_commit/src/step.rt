@@ -353,7 +353,8 @@ impl Branch {
         report: Report,
         outs: &mut TxOuts,
     ) -> Result<(), NoMemory>
-        ensures { OnOk result (outs.new ≡ outs.old ++ (carry_up self.now (DialogueRecord.RolledBack report) ++ TxOut.Tell (Indication.RollbackComplete report) ∷ [])) }
+        ensures { OnOk result (outs.new ≡ outs.old
+            ++ (carry_up self.now (DialogueRecord.RolledBack report) ++ TxOut.Tell (Indication.RollbackComplete report) ∷ [])) }
     {
         self.carry_up(alloc, DialogueRecord::RolledBack { report }, outs)?;
         outs.push(alloc, TxOut::Tell(Indication::RollbackComplete { report }))

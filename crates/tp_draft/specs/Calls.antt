@@ -18,7 +18,8 @@ use Rattle.tp_node.specs.Calls.{answered, begun_under}
 -- the offer of that mark on the arc is answered, with a new mark
 abbrev pub answering : Arc → Mark → ℕ → Who → Digest → Move
 answering a x units who d =
-    perform (TxOut.Recovery a.peer (PeerRecord.AcceptAssoc x (next_mark who d) units) ∷ []) (answered a units Side.Subordinate (Live x (next_mark who d) 0 0) (with_mark_drawn d))
+    perform (TxOut.Recovery a.peer (PeerRecord.AcceptAssoc x (next_mark who d) units) ∷ [])
+    (answered a units Side.Subordinate (Live x (next_mark who d) 0 0) (with_mark_drawn d))
 
 -- and its user is told
 abbrev pub entering_tree : Addr → Aaid → BranchId → Holder → Who → Digest → Move

@@ -60,7 +60,8 @@ impl Draft {
         rec: &DialogueRecord,
     ) -> Result<(), Halt>
         requires refused { refused_arrival self.old.who self.old.move.next from.now (PeerRecord.OnAssoc x.now y.now seq rec.now) ≡ None }
-        requires seen { option_map sight_value seen ≡ option_map (λ a. sight_at self.old.who self.old.move.next a rec.now) (find_arc self.old.move.next.arcs from.now.node) }
+        requires seen { option_map sight_value seen
+            ≡ option_map (λ a. sight_at self.old.who self.old.move.next a rec.now) (find_arc self.old.move.next.arcs from.now.node) }
         ensures { Plays result self.old self.new (λ who. do_arrival who from.now (PeerRecord.OnAssoc x.now y.now seq rec.now)) }
     {
         match seen {

@@ -38,9 +38,9 @@ pub fn an_arrow_ends_where_its_frame_does()
     ensures { (os : List OutLine) (k : ℕ) → Says k os (end_of os k) }
 {}
 
-// Promise 21.11 [tp_draw/specs/Laws.antt]: Each take of a frame that was sent ends one arrow,
-//   whether it is the first or comes again: that of the send, or one of its own from the row of the
-//   send
+// Promise 21.11 [tp_draw/specs/Laws.antt]: Each take of a frame that was sent is the end of the
+//   arrow of its send where it is the first end of the frame, and else has an arrow of its own,
+//   from the row of the first send
 /// Each take of a frame that was sent ends one arrow. Where it is the first end of the frame, that is the arrow of the
 /// send; else the take has one of its own, from the row of the send.
 pub fn each_take_ends_one_arrow()

@@ -43,9 +43,9 @@ pub fn drive<R: Threads + Wait + Sync, D: Disk + Send, G: Gate + Sync>(
     //   its limit
     ensures done { IfOk result (λ d. IsDriven (opening_on journal name) workers events.now d.outs d.receipts d.journal.wide d.journal.list) }
     ensures open { IfOk result (λ d. d.journal.shut ≡ None) }
-    // Promise 6.8 [clauses images images_left]: A crash since the boot left the boot and the first
-    //   of the records after it; one at the end leaves all of them, of a log that is shut the boot
-    //   and the first of the others
+    // Promise 6.8 [clauses images images_left]: Where the disk tells its story, a crash since the
+    //   boot left the boot and the first of the records after it; one at the end leaves all of
+    //   them, of a log that is shut the boot and the first of the others
     // Promise 6.9 [tp_drive/specs/Drives.antt, clauses images images_left open]: The records that
     //   the site started on follow one another, the log stays of its version, and on Ok it is open
     ensures images { IfOk result (λ d. LeavesBooted (λ j. standing_of j (D.fault_count j.disk) (D.told j.disk) (D.fuse j.disk)) journal name

@@ -9,9 +9,10 @@ ghost use Rattle.tp_model.specs.Happenings.{Happening, run};
 ghost use Rattle.tp_forced.specs.TreeLog.{OneLog, EndsLast, CommitsForceSo, RollsUnforced};
 ghost use Rattle.tp_forced.specs.Taken.{TakenOnce};
 
-// Promise 16.49 [tp_forced/specs]: What a node forced of a tree has one key, and stands in one
-//   order: of a branch Ready, its own decision if it took one, and Commit, or the end or damage of
-//   a rollback; of a root Commit; after Commit damage or the end
+// Promise 16.49 [tp_forced/specs]: What a node forced of a tree has one key, and is the first of
+//   these records in this order: of a branch Ready, its own decision if it took one, and Commit, or
+//   the end of a rollback, before which its damage may stand; of a root Commit; after Commit the
+//   end, before which damage may stand any number of times
 /// In every run, what a node forced of a tree has one key, and stands in one order: nothing; of a branch Ready, a decision of
 /// its own if it took one, and then Commit, or the end or the damage of a rollback; of a root Commit; after Commit its end,
 /// or damage, which stands again for each branch that is done later, and then the end. So a node enters a tree under one key,

@@ -212,8 +212,8 @@ impl<D: Disk> Gathering<D> {
     pub fn settle(&mut self) -> Result<(), ForceFault>
         ensures tells { Tells self.old.journal (D.fault_count self.old.journal.disk) self.new.journal (D.fault_count self.new.journal.disk) }
         ensures ok { OnOk result ((self.old.journal.shut ≡ None) × (self.new.journal.shut ≡ None)) }
-        // Promise 3.22 [clauses refused tells]: A settle fails by a fault of the disk alone, which
-        //   shuts the log; the list keeps what was noted
+        // Promise 3.22 [clauses refused tells]: A settle fails only by a fault of the disk, which
+        //   shuts the log, or because the log was shut before; the list keeps what was noted
         ensures refused { IfErr result
             (RefusesSettle self.old.journal (D.fault_count self.old.journal.disk) self.new.journal (D.fault_count self.new.journal.disk)) }
         ensures settled { IsSettled self.new }

@@ -75,7 +75,7 @@ pub fn one_holder()
 {}
 
 // Promise 16.20: What a node counts of a branch, the branch logged; one that rolled without Ready
-//   is never counted; and with this all that is promised between a node and its branches
+//   is never counted; and this with 16.21 to 16.25, as one record
 /// In every run, all that is promised between a node and its branches: Commit goes up, Ready and leaving go down, what is
 /// counted is logged, a ready branch rolls only with its superior, one that rolled without Ready is never counted, and a node
 /// that left neither logged nor rolled.

@@ -200,7 +200,9 @@ fn write_damage(
     owed: &Children,
     out: &mut Octets,
 ) -> Result<(), NoMemory>
-    ensures ok { OnOk result (out.new ≡ out.old ++ ((head_bytes 5 node key.now ++ superior_bytes superior.now) ++ (outcome_bytes judgement.0 ++ report_bytes judgement.1) ++ children_bytes ver owed.now)) }
+    ensures ok { OnOk result (out.new ≡ out.old
+        ++ ((head_bytes 5 node key.now ++ superior_bytes superior.now) ++ (outcome_bytes judgement.0 ++ report_bytes judgement.1)
+        ++ children_bytes ver owed.now)) }
     ensures err { OnErr result (Keeps out.old out.new) }
 {
     write_long_head(alloc, 5, node, key, superior, out)?;

@@ -49,5 +49,6 @@ pub fn a_brief_is_in_order()
 // Promise 2.18: What is read of bytes as a log is a log of those records
 /// What is read of bytes as a log is a log of those records.
 pub fn what_is_read_is_a_log()
-    ensures { (bytes : List ℕ) (version : LogVersion) (placed : List Placed) (gate : ℕ) → AreBytes bytes → read_log bytes ≡ Reads version placed gate → IsLog bytes (recs placed) }
+    ensures { (bytes : List ℕ) (version : LogVersion) (placed : List Placed) (gate : ℕ) → AreBytes bytes
+        → read_log bytes ≡ Reads version placed gate → IsLog bytes (recs placed) }
 {}

@@ -34,7 +34,8 @@ impl Eq for Owner {
 
 // Few keys of a node have the same marks: a key is hashed by its marks, and not by the names beside them.
 impl Hash for Owner {
-    ghost hash_input = { λ o. fed.u16 o.node ++ marks.ghosts.hash_input o.key.aaid.mark ++ elim o.key.branch [ None ↦ [] | Some b ↦ marks.ghosts.hash_input b.mark ] };
+    ghost hash_input = { λ o. fed.u16 o.node ++ marks.ghosts.hash_input o.key.aaid.mark
+        ++ elim o.key.branch [ None ↦ [] | Some b ↦ marks.ghosts.hash_input b.mark ] };
 
     ghost respects_eq = { λ a b same. ap (λ o. fed.u16 o.node ++ marks.ghosts.hash_input o.key.aaid.mark ++ elim o.key.branch [ None ↦ [] | Some b ↦ marks.ghosts.hash_input b.mark ]) (owner_same a b same) };
 

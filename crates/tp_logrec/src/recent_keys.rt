@@ -66,7 +66,8 @@ impl RecentKeys {
 
     /// Takes a copy of the key's next record, which is no End. Without memory nothing changes.
     fn put(&mut self, alloc: Global, owner: &Owner, rec: &LogRec) -> Result<(), NoMemory>
-        ensures ok { OnOk result ((o : TheOwner) → recent self.new o ≡ cond (is_owner owner.now o) (Some (recent_with (recent self.old owner.now) rec.now)) (recent self.old o)) }
+        ensures ok { OnOk result ((o : TheOwner)
+            → recent self.new o ≡ cond (is_owner owner.now o) (Some (recent_with (recent self.old owner.now) rec.now)) (recent self.old o)) }
         ensures err { OnErr result ((o : TheOwner) → recent self.new o ≡ recent self.old o) }
     {
         let next = Recent::begin(alloc, rec)?;

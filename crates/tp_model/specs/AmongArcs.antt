@@ -65,7 +65,8 @@ is_child_at (x ∷ xs) p = (x.addr.node == p) || is_child_at xs p
 abbrev pub AreNew : List Child → List Arc → Current → Type 0
 AreNew [] arcs c = Unit {0}
 AreNew (x ∷ xs) arcs c =
-    (is_live_with_peer arcs x.addr.node ≡ true) × (is_end_deferred_at arcs x.addr.node ≡ false) × (is_peer c x.addr.node ≡ false) × (is_child_at xs x.addr.node ≡ false) × AreNew xs arcs c
+    (is_live_with_peer arcs x.addr.node ≡ true) × (is_end_deferred_at arcs x.addr.node ≡ false) × (is_peer c x.addr.node ≡ false)
+    × (is_child_at xs x.addr.node ≡ false) × AreNew xs arcs c
 
 -- a deferred end stands on its arc by now, and an arc that is lost is gone; any other event leaves the arcs
 -- as they look. The user aborts a branch and defers an end while the transaction is active, and so is the

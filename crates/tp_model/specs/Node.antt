@@ -205,7 +205,8 @@ completed_arcs d t o arcs = with_dialogues arcs (is_arc_of t) (λ a. completed o
 -- the leaver's dialogues below are as after a completion, and the superior's rests
 abbrev pub left_arcs : Transaction → List Arc → List Arc
 left_arcs t arcs =
-    with_dialogues (with_dialogues arcs (is_arc_below t) (λ a. completed Outcome.Rollback Side.Superior a.dialogue)) (λ a. is_under_at t.key a.peer.node) (λ a. rested a.dialogue)
+    with_dialogues (with_dialogues arcs (is_arc_below t) (λ a. completed Outcome.Rollback Side.Superior a.dialogue))
+    (λ a. is_under_at t.key a.peer.node) (λ a. rested a.dialogue)
 
 -- a deferred grant is given at a commitment, on a live unchained arc to a subordinate
 abbrev pub is_granting : Transaction → Arc → Bool

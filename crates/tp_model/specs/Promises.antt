@@ -183,10 +183,12 @@ pub record ParentAndChild (w : World) : Type 0 where
   -- what is counted is logged
   pub counted_is_logged : (t : Aaid) (b : BranchId) (x y : Node) → IsBranchOf w t b x y → is_counted t b x ≡ true → has_logged (is_ready_of_branch t b) y ≡ true
   -- a ready child rolls only with its superior
-  pub rolls_up : (t : Aaid) (b : BranchId) (x y : Node) → IsBranchOf w t b x y → has_logged (is_ready_of_branch t b) y ≡ true → rolled y.origin t y.history ≡ true
+  pub rolls_up : (t : Aaid) (b : BranchId) (x y : Node) → IsBranchOf w t b x y → has_logged (is_ready_of_branch t b) y ≡ true
+      → rolled y.origin t y.history ≡ true
       → rolled x.origin t x.history ≡ true
   -- a child that rolled without Ready is never counted
-  pub rolled_is_uncounted : (t : Aaid) (b : BranchId) (x y : Node) → IsBranchOf w t b x y → has_logged (is_ready_of_branch t b) y ≡ false → rolled y.origin t y.history ≡ true
+  pub rolled_is_uncounted : (t : Aaid) (b : BranchId) (x y : Node) → IsBranchOf w t b x y → has_logged (is_ready_of_branch t b) y ≡ false
+      → rolled y.origin t y.history ≡ true
       → is_counted t b x ≡ false
   -- a node that left has no record, did not roll, and all below it left
   pub left_is_bare : (t : Aaid) (x : Node) → IsOf w t x → has_left x.origin t x.history ≡ true → has_logged (is_of_tree t) x ≡ false

@@ -137,7 +137,8 @@ impl Frames {
         to: &Addr,
         rec: &PeerRecord,
     ) -> Result<u16, SendFault>
-        ensures ok { IfOk result (λ number. (number ≡ length self.old + 1) × (self.new ≡ self.old ++ record { from = from.now; to = to.now; rec = rec.now; handed = false } ∷ [])) }
+        ensures ok { IfOk result (λ number. (number ≡ length self.old + 1)
+            × (self.new ≡ self.old ++ record { from = from.now; to = to.now; rec = rec.now; handed = false } ∷ [])) }
         ensures err { OnErr result (self.new ≡ self.old) }
         // Promise 15.12: `Full` comes of frames exactly where all numbers are used
         ensures full { IfErr result (IsFull (length self.old)) }

@@ -38,7 +38,8 @@ impl Run {
 
     /// The numbers that nodes begin with, with one more node of that number after so many.
     pub(crate) fn with(self, all: usize, number: u16) -> Run
-        ensures { (xs : List Slot) (x : Slot) → length xs ≡ all → x.addr.node ≡ number → IsRun self.count self.first xs → IsRun result.count result.first (xs ++ x ∷ []) }
+        ensures { (xs : List Slot) (x : Slot) → length xs ≡ all → x.addr.node ≡ number → IsRun self.count self.first xs
+            → IsRun result.count result.first (xs ++ x ∷ []) }
     {
         if all == 0 {
             return Run {

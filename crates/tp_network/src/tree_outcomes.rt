@@ -124,7 +124,8 @@ impl OutcomesByTree {
 
     // Of that tree, with one node more, where another tree comes next.
     fn add_other(&mut self, tree: &Tree, summary: &TreeSummary) -> Result<(), NoMemory>
-        ensures { OnOk result ((t : AaidValue) → outcomes_in self.new t ≡ cond (is_aaid t tree.now.aaid) (with_node summary.now (outcomes_in self.old t)) (outcomes_in self.old t)) }
+        ensures { OnOk result ((t : AaidValue)
+            → outcomes_in self.new t ≡ cond (is_aaid t tree.now.aaid) (with_node summary.now (outcomes_in self.old t)) (outcomes_in self.old t)) }
     {
         let first = TreeOutcomes::NONE.with(summary);
         let (place, older) = self.outcomes.insert_full(*tree, first)?;
@@ -137,7 +138,8 @@ impl OutcomesByTree {
 
     /// Of that tree, with one node more.
     pub(crate) fn add(&mut self, tree: &Tree, summary: &TreeSummary) -> Result<(), NoMemory>
-        ensures { OnOk result ((t : AaidValue) → outcomes_in self.new t ≡ cond (is_aaid t tree.now.aaid) (with_node summary.now (outcomes_in self.old t)) (outcomes_in self.old t)) }
+        ensures { OnOk result ((t : AaidValue)
+            → outcomes_in self.new t ≡ cond (is_aaid t tree.now.aaid) (with_node summary.now (outcomes_in self.old t)) (outcomes_in self.old t)) }
     {
         if add_at(&mut self.outcomes, self.next, tree, summary) {
             self.next = self.next.wrapping_add(1);
@@ -164,7 +166,9 @@ fn add_at(
     tree: &Tree,
     summary: &TreeSummary,
 ) -> bool
-    ensures added { result ≡ true → (t : AaidValue) → outcomes_in outcomes.new.entries t ≡ cond (is_aaid t tree.now.aaid) (with_node summary.now (outcomes_in outcomes.old.entries t)) (outcomes_in outcomes.old.entries t) }
+    ensures added { result ≡ true → (t : AaidValue)
+        → outcomes_in outcomes.new.entries t
+        ≡ cond (is_aaid t tree.now.aaid) (with_node summary.now (outcomes_in outcomes.old.entries t)) (outcomes_in outcomes.old.entries t) }
     ensures same { result ≡ false → outcomes.new ≡ outcomes.old }
 {
     if !is_at(outcomes, place, tree) {

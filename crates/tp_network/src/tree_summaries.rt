@@ -68,7 +68,8 @@ impl TreeSummaries {
     ) -> Result<(), NoMemory>
         requires before { is_in tree.now change.now.before ≡ is_before }
         requires after { is_in tree.now change.now.after ≡ is_after }
-        ensures changed { OnOk result ((t : AaidValue) → summary_at self.new t ≡ cond (is_aaid t tree.now) (summary_after t change.now (summary_at self.old t)) (summary_at self.old t)) }
+        ensures changed { OnOk result ((t : AaidValue)
+            → summary_at self.new t ≡ cond (is_aaid t tree.now) (summary_after t change.now (summary_at self.old t)) (summary_at self.old t)) }
         ensures same { OnErr result (self.new ≡ self.old) }
     {
         let first = TreeSummary::NONE.after_in(tree, is_before, is_after, change);
@@ -92,7 +93,8 @@ impl TreeSummaries {
     ) -> Result<(), NoMemory>
         requires before { is_in tree.now change.now.before ≡ is_before }
         requires after { is_in tree.now change.now.after ≡ is_after }
-        ensures changed { OnOk result ((t : AaidValue) → summary_at self.new t ≡ cond (is_aaid t tree.now) (summary_after t change.now (summary_at self.old t)) (summary_at self.old t)) }
+        ensures changed { OnOk result ((t : AaidValue)
+            → summary_at self.new t ≡ cond (is_aaid t tree.now) (summary_after t change.now (summary_at self.old t)) (summary_at self.old t)) }
         ensures same { OnErr result (self.new ≡ self.old) }
     {
         if change_at(
@@ -112,7 +114,8 @@ impl TreeSummaries {
     #[inline(always)]
     fn change_before(&mut self, change: &TreeChange) -> Result<bool, NoMemory>
         ensures stays { IfOk result (λ stays. same_tree change.now.before change.now.after ≡ stays) }
-        ensures changed { OnOk result ((t : AaidValue) → summary_at self.new t ≡ cond (is_in t change.now.before) (summary_after t change.now (summary_at self.old t)) (summary_at self.old t)) }
+        ensures changed { OnOk result ((t : AaidValue)
+            → summary_at self.new t ≡ cond (is_in t change.now.before) (summary_after t change.now (summary_at self.old t)) (summary_at self.old t)) }
         ensures same { OnErr result (self.new ≡ self.old) }
     {
         match &change.before {
@@ -128,7 +131,9 @@ impl TreeSummaries {
     // The summary in the tree after an entry, which was not the tree before it.
     fn change_entered(&mut self, change: &TreeChange) -> Result<(), NoMemory>
         requires { same_tree change.now.before change.now.after ≡ false }
-        ensures changed { OnOk result ((t : AaidValue) → summary_at self.new t ≡ cond (is_in t change.now.after && not (is_in t change.now.before)) (summary_after t change.now (summary_at self.old t)) (summary_at self.old t)) }
+        ensures changed { OnOk result ((t : AaidValue)
+            → summary_at self.new t ≡ cond (is_in t change.now.after && not (is_in t change.now.before))
+            (summary_after t change.now (summary_at self.old t)) (summary_at self.old t)) }
         ensures same { OnErr result (self.new ≡ self.old) }
     {
         match &change.after {
@@ -140,7 +145,9 @@ impl TreeSummaries {
     // The summary in the tree after an entry, unless that was the tree before it.
     fn change_after(&mut self, stays: bool, change: &TreeChange) -> Result<(), NoMemory>
         requires { same_tree change.now.before change.now.after ≡ stays }
-        ensures changed { OnOk result ((t : AaidValue) → summary_at self.new t ≡ cond (is_in t change.now.after && not (is_in t change.now.before)) (summary_after t change.now (summary_at self.old t)) (summary_at self.old t)) }
+        ensures changed { OnOk result ((t : AaidValue)
+            → summary_at self.new t ≡ cond (is_in t change.now.after && not (is_in t change.now.before))
+            (summary_after t change.now (summary_at self.old t)) (summary_at self.old t)) }
         ensures same { OnErr result (self.new ≡ self.old) }
     {
         if stays {
@@ -152,7 +159,9 @@ impl TreeSummaries {
     // The summary in that tree after an entry, unless it is the tree before the entry or after it.
     #[inline(never)]
     fn change_once(&mut self, tree: &Aaid, change: &TreeChange) -> Result<(), NoMemory>
-        ensures changed { OnOk result ((t : AaidValue) → summary_at self.new t ≡ cond (is_aaid t tree.now && not (stood_in t change.now)) (summary_after t change.now (summary_at self.old t)) (summary_at self.old t)) }
+        ensures changed { OnOk result ((t : AaidValue)
+            → summary_at self.new t ≡ cond (is_aaid t tree.now && not (stood_in t change.now))
+            (summary_after t change.now (summary_at self.old t)) (summary_at self.old t)) }
         ensures same { OnErr result (self.new ≡ self.old) }
     {
         if stood_in(tree, change) {
@@ -163,7 +172,9 @@ impl TreeSummaries {
 
     // The summary in the tree of which an entry logs, unless it is the tree before the entry or after it.
     fn change_logged(&mut self, change: &TreeChange) -> Result<(), NoMemory>
-        ensures changed { OnOk result ((t : AaidValue) → summary_at self.new t ≡ cond (is_that t (tree_logged change.now.rec) && not (stood_in t change.now)) (summary_after t change.now (summary_at self.old t)) (summary_at self.old t)) }
+        ensures changed { OnOk result ((t : AaidValue)
+            → summary_at self.new t ≡ cond (is_that t (tree_logged change.now.rec) && not (stood_in t change.now))
+            (summary_after t change.now (summary_at self.old t)) (summary_at self.old t)) }
         ensures same { OnErr result (self.new ≡ self.old) }
     {
         match tree_logged(&change.rec) {
@@ -230,7 +241,9 @@ fn change_at(
 ) -> bool
     requires before { is_in tree.now change.now.before ≡ is_before }
     requires after { is_in tree.now change.now.after ≡ is_after }
-    ensures changed { result ≡ true → (t : AaidValue) → summary_at summaries.new.entries t ≡ cond (is_aaid t tree.now) (summary_after t change.now (summary_at summaries.old.entries t)) (summary_at summaries.old.entries t) }
+    ensures changed { result ≡ true → (t : AaidValue)
+        → summary_at summaries.new.entries t
+        ≡ cond (is_aaid t tree.now) (summary_after t change.now (summary_at summaries.old.entries t)) (summary_at summaries.old.entries t) }
     ensures same { result ≡ false → summaries.new ≡ summaries.old }
 {
     if !is_at(summaries, place, tree) {

@@ -121,7 +121,9 @@ impl Waiting {
         number: u16,
     ) -> Result<(), NoMemory>
         requires { passed < number }
-        ensures ok { OnOk result ((a b : ℕ) → above passed (queue_at self.new a b) ≡ cond (is_pair (from, to) (a, b)) (above passed (queue_at self.old a b) ++ number ∷ []) (above passed (queue_at self.old a b))) }
+        ensures ok { OnOk result ((a b : ℕ)
+            → above passed (queue_at self.new a b)
+            ≡ cond (is_pair (from, to) (a, b)) (above passed (queue_at self.old a b) ++ number ∷ []) (above passed (queue_at self.old a b))) }
         ensures err { OnErr result ((a b : ℕ) → above passed (queue_at self.new a b) ≡ above passed (queue_at self.old a b)) }
     {
         let place = self.place(from, to);
@@ -135,7 +137,8 @@ impl Waiting {
     /// The oldest number between these two nodes that did not pass waits no longer.
     pub(crate) fn take(&mut self, passed: usize, from: u16, to: u16) -> Option<u16>
         ensures number { result ≡ first_of (above passed (queue_at self.old from to)) }
-        ensures rest { (a b : ℕ) → above passed (queue_at self.new a b) ≡ cond (is_pair (from, to) (a, b)) (drop 1 (above passed (queue_at self.old a b))) (above passed (queue_at self.old a b)) }
+        ensures rest { (a b : ℕ) → above passed (queue_at self.new a b)
+            ≡ cond (is_pair (from, to) (a, b)) (drop 1 (above passed (queue_at self.old a b))) (above passed (queue_at self.old a b)) }
     {
         let place = self.place(from, to);
         if place >= self.lanes.len() {

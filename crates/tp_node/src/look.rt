@@ -29,7 +29,8 @@ fn look_at(arcs: &Option<SharedArcs>, place: usize, peer: u16) -> (bool, bool)
 }
 
 fn see_superior(node: u16, arcs: &Option<SharedArcs>, branch: &mut Branch)
-    ensures { branch.new ≡ record branch.old { node = node; up = is_up_live (arcs_in arcs.now) branch.old.key; up_ends = is_up_ending (arcs_in arcs.now) branch.old.key } }
+    ensures { branch.new ≡ record branch.old
+        { node = node; up = is_up_live (arcs_in arcs.now) branch.old.key; up_ends = is_up_ending (arcs_in arcs.now) branch.old.key } }
 {
     match branch.superior() {
         None => branch.see_superior(node, false, false),

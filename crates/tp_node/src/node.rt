@@ -177,7 +177,8 @@ impl Node {
 
     /// Forget is noted of the kept transaction of that key. Without memory nothing changes.
     pub fn note_forget(&mut self, alloc: Global, key: &NodeKey) -> Result<(), NoMemory>
-        ensures noted { OnOk result (self.new ≡ with_digest self.old (record self.old.digest { kept = with_forget self.old.digest.kept key.now (λ x. noted x KeptEvent.Forget) })) }
+        ensures noted { OnOk result (self.new
+            ≡ with_digest self.old (record self.old.digest { kept = with_forget self.old.digest.kept key.now (λ x. noted x KeptEvent.Forget) })) }
         ensures same { OnErr result (self.new ≡ self.old) }
     {
         kept::note_forget(alloc, &mut self.kept, key)
@@ -515,7 +516,8 @@ impl Node {
 
     // No new dialogue can be asked for with that peer now.
     fn is_taken(&self, peer: u16) -> bool
-        ensures { result ≡ ((peer == self.now.who.node) || is_superior self.now.digest peer || is_some (find_arc self.now.digest.arcs peer) || is_branch_below self.now.digest peer || is_late (phase_of self.now.digest)) }
+        ensures { result ≡ ((peer == self.now.who.node) || is_superior self.now.digest peer || is_some (find_arc self.now.digest.arcs peer)
+            || is_branch_below self.now.digest peer || is_late (phase_of self.now.digest)) }
     {
         peer == self.number
             || self.side(peer) == Side::Subordinate
@@ -751,7 +753,8 @@ impl Node {
         superior: &Option<Addr>,
     ) -> Result<(), NoMemory>
         requires { IsTrue (has_superior key.now superior.now) }
-        ensures begun { OnOk result (self.new ≡ with_digest self.old (record self.old.digest { current = Some (fresh_current (key_from key.now superior.now)) })) }
+        ensures begun { OnOk result (self.new
+            ≡ with_digest self.old (record self.old.digest { current = Some (fresh_current (key_from key.now superior.now)) })) }
         ensures same { OnErr result (self.new ≡ self.old) }
     {
         self.current = Some(spare.begin(alloc, self.number, key, superior)?);
@@ -868,7 +871,9 @@ impl Node {
         requires side { Side.Superior ≡ side_at self.old.digest addr.node }
         requires place { has_place_at Side.Superior self.old.digest ≡ true }
         ensures mark { IfOk result (λ x. x ≡ next_mark self.old.who self.old.digest) }
-        ensures node { IfOk result (λ x. self.new ≡ with_digest self.old (record (with_mark_drawn self.old.digest) { arcs = self.old.digest.arcs ++ new_arc addr units Side.Superior (Opening x) ∷ [] })) }
+        ensures node { IfOk result (λ x. self.new
+            ≡ with_digest self.old (record (with_mark_drawn self.old.digest)
+            { arcs = self.old.digest.arcs ++ new_arc addr units Side.Superior (Opening x) ∷ [] })) }
         ensures spent { OnSpent result (self.old.digest.drawn ≡ greatest) }
         ensures halted { IsHalted result self.old self.new }
     {
@@ -898,7 +903,8 @@ impl Node {
     pub fn answer(&mut self, tie: &Tie, x: Mark, units: Units) -> Result<Mark, NumbersSpent>
         requires { offer_of self.old.digest ≡ Some (arc_of tie.now, x) }
         ensures mark { IfOk result (λ y. y ≡ next_mark self.old.who self.old.digest) }
-        ensures node { IfOk result (λ y. self.new ≡ with_digest self.old (answered (arc_of tie.now) units Side.Subordinate (Live x y 0 0) (with_mark_drawn self.old.digest))) }
+        ensures node { IfOk result (λ y. self.new
+            ≡ with_digest self.old (answered (arc_of tie.now) units Side.Subordinate (Live x y 0 0) (with_mark_drawn self.old.digest))) }
         ensures spent { OnErr result (self.old.digest.drawn ≡ greatest) }
         ensures same { OnErr result (self.new ≡ self.old) }
     {
@@ -1056,7 +1062,8 @@ impl Node {
     #[tactic(auto, using(tp_node_state::proofs::Takes::woken_so))]
     pub fn take(&mut self, peer: u16, x: Mark, y: Mark, seq: u64, rec: &DialogueRecord)
         requires { dropped_by (link_with self.old.digest.arcs peer) x y seq ≡ None }
-        ensures { self.new ≡ with_digest self.old (woken_by rec.now peer (record self.old.digest { arcs = with_link self.old.digest.arcs peer with_one_taken })) }
+        ensures { self.new ≡ with_digest self.old
+            (woken_by rec.now peer (record self.old.digest { arcs = with_link self.old.digest.arcs peer with_one_taken })) }
     {
         match &mut self.arcs {
             None => {}

@@ -119,7 +119,8 @@ impl Node {
         rec: &DialogueRecord,
     ) -> Result<Option<Disposition>, Refusal>
         ensures refused { refusal_in result ≡ refused_on self.now.who self.now.digest from.now x.now y.now seq rec.now }
-        ensures sight { IfOk result (λ seen. option_map sight_value seen ≡ option_map (λ a. sight_at self.now.who self.now.digest a rec.now) (find_arc self.now.digest.arcs from.now.node)) }
+        ensures sight { IfOk result (λ seen. option_map sight_value seen
+            ≡ option_map (λ a. sight_at self.now.who self.now.digest a rec.now) (find_arc self.now.digest.arcs from.now.node)) }
     {
         let Some(tie) = self.tie(from.node) else {
             return Err(OldAssociation);

@@ -55,7 +55,9 @@ impl Trees {
 
     /// One of that key is kept.
     pub(crate) fn add(&mut self, key: &NodeKey) -> Result<(), NoMemory>
-        ensures added { OnOk result ((t : AaidValue) → in_tree self.new t ≡ cond (is_same_key (tree_key key.now.aaid) (tree_key t)) (Some (with_one (in_tree self.old key.now.aaid) key.now)) (in_tree self.old t)) }
+        ensures added { OnOk result ((t : AaidValue)
+            → in_tree self.new t ≡ cond (is_same_key (tree_key key.now.aaid) (tree_key t))
+            (Some (with_one (in_tree self.old key.now.aaid) key.now)) (in_tree self.old t)) }
         ensures same { OnErr result (self.new ≡ self.old) }
     {
         // (the compiler wants the type inside a key to be named)

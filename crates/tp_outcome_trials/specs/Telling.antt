@@ -164,7 +164,8 @@ gave_up x = has_given_up tree x
 
 -- an awaited branch's report came as a reply
 abbrev pub replies : Current → Event → Bool
-replies c (Event.Arrive a (PeerRecord.RecReply u b (RecState.Done r))) = is_committing c.phase && is_awaited (find_branch_by_id c.branches b) && is_aaid (aaid_of c.key) u && not (is_report_none r)
+replies c (Event.Arrive a (PeerRecord.RecReply u b (RecState.Done r))) = is_committing c.phase
+    && is_awaited (find_branch_by_id c.branches b) && is_aaid (aaid_of c.key) u && not (is_report_none r)
 replies c _ = false
 
 abbrev pub was_replied : Node → Bool

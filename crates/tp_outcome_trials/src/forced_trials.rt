@@ -20,12 +20,16 @@ pub fn a_clear_tree_forces_eight_records()
 /// It would be false of each node whose commitment is complete: one that decided by itself forced its decision and its damage.
 pub fn a_decided_commitment_forces_more()
     ensures complete { holds is_complete deep_reported 3 ≡ true }
-    ensures last { forced_after deep_reported 3 ≡ LogWords.Damage 3 second_key Outcome.Commit Report.Mix ∷ LogWords.Commit 3 second_key ∷ LogWords.Heuristic 3 second_key Outcome.Rollback ∷ LogWords.Ready 3 second_key ∷ [] }
+    ensures last { forced_after deep_reported 3
+        ≡ LogWords.Damage 3 second_key Outcome.Commit Report.Mix ∷ LogWords.Commit 3 second_key ∷ LogWords.Heuristic 3 second_key
+        Outcome.Rollback ∷ LogWords.Ready 3 second_key ∷ [] }
 {}
 
 /// That nothing follows damage would be false: the end does, when the superior has told the branch to forget.
 pub fn an_end_follows_damage()
-    ensures { forced_after forgotten 2 ≡ LogWords.End 2 first_key Outcome.Commit ∷ LogWords.Damage 2 first_key Outcome.Commit Report.Mix ∷ LogWords.Commit 2 first_key ∷ LogWords.Heuristic 2 first_key Outcome.Rollback ∷ LogWords.Ready 2 first_key ∷ [] }
+    ensures { forced_after forgotten 2
+        ≡ LogWords.End 2 first_key Outcome.Commit ∷ LogWords.Damage 2 first_key Outcome.Commit Report.Mix ∷ LogWords.Commit 2
+        first_key ∷ LogWords.Heuristic 2 first_key Outcome.Rollback ∷ LogWords.Ready 2 first_key ∷ [] }
 {}
 
 /// A root that rolls, and a branch that left, forced nothing; a branch that rolled after its Ready did.

@@ -183,7 +183,8 @@ impl Disk for FuseDisk {
         ensures risen { OnErr result (HasRisen (fault_count_of (fused self.old)) (fault_count_of (fused self.new))) }
 
         ensures passes { OnOk result (OnFuse (Passes (DiskWrites at piece.now)) (Some (fused self.old)) (Some (fused self.new))) }
-        ensures stops { OnErr result (OnFuse (FuseFails (DiskWrites at piece.now) (IsMade (DiskWrites at piece.now))) (Some (fused self.old)) (Some (fused self.new))) }
+        ensures stops { OnErr result (OnFuse (FuseFails (DiskWrites at piece.now) (IsMade (DiskWrites at piece.now)))
+            (Some (fused self.old)) (Some (fused self.new))) }
     {
         if self.stopped {
             return Err(self.refuse());

@@ -75,7 +75,8 @@ impl Sink for MemSink {
         ensures whole { IfOk result (λ n. n ≡ length piece.now) }
         ensures due { Contains self.old.fails self.new.calls → IsErr result }
         ensures written { IfOk result (λ _. self.new ≡ after_write piece.now self.old) }
-        ensures failed { OnErr result ((Contains self.old.fails self.new.calls × (self.new ≡ after_failed_write self.old)) ⊎ (self.new ≡ after_starved_write self.old)) }
+        ensures failed { OnErr result ((Contains self.old.fails self.new.calls × (self.new ≡ after_failed_write self.old))
+            ⊎ (self.new ≡ after_starved_write self.old)) }
     {
         self.calls = self.calls.saturating_add(1);
         if due::is_due(&self.fails, self.calls) {

@@ -62,7 +62,8 @@ scan_peer_of n (code ∷ bytes) =
     else if (n == 38) && (code == 2) then (scan_make (λ x y u. tt) with scan_mark with scan_mark with scan_units) bytes
     else if (n == 20) && (code == 3) then (scan_make (λ x f. tt) with scan_mark with scan_this 0) bytes
     else if (n == 38) && (code == 3) then (scan_make (λ x f y. tt) with scan_mark with scan_this 1 with scan_mark) bytes
-    else if (nat_le 46 n && nat_le n 1072) && (code == 4) then (scan_make (λ x y s r. tt) with scan_mark with scan_mark with scan_long with scan_dialogue_of (n - 45)) bytes
+    else if (nat_le 46 n && nat_le n 1072)
+    && (code == 4) then (scan_make (λ x y s r. tt) with scan_mark with scan_mark with scan_long with scan_dialogue_of (n - 45)) bytes
     else if (nat_le 41 n && nat_le n 71) && ((code == 5) || (code == 6) || (code == 8)) then scan_names_of (n - 39) bytes
     else if (nat_le 42 n && nat_le n 73) && (code == 7) then scan_reply_of (n - 39) bytes
     else Err (suc (length bytes))

@@ -41,7 +41,8 @@ Commit =
     × (part_after recovered 2 ≡ Some (record ready { ending = Ending.Committed }))
 
 abbrev pub Roll_back : Type 0
-Roll_back = (part_after rolled_back 1 ≡ Some (record root { ending = Ending.Rolled })) × (part_after rolled_back 2 ≡ Some (record ready { ending = Ending.Rolled }))
+Roll_back = (part_after rolled_back 1 ≡ Some (record root { ending = Ending.Rolled }))
+    × (part_after rolled_back 2 ≡ Some (record ready { ending = Ending.Rolled }))
 
 -- the branch decides to roll back, and is told later that its superior committed
 abbrev pub Decide : Type 0

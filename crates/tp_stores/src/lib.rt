@@ -37,8 +37,9 @@ pub fn a_store_holds_its_branches()
     //   voted for it, while the disk does not fail
     ensures of_branches { (es : List Happening) → AreOfBranches (run es) }
     ensures holds { (es : List Happening) → HoldsItsBranches (run es) }
-    // Promise 8.16: It counts a branch only where the node was told `commit` in its tree, and
-    //   wherever it was, if the store heard all that the node's user was told
+    // Promise 8.16: In every run, at a node that starts no transaction of its own, a store counts a
+    //   branch only where the node was told `commit` in its tree, and wherever it was, if the store
+    //   heard all that the node's user was told
     ensures counts { (es : List Happening) → CountsCommits (run es) }
     ensures agree { (x : Node) (hs : List Heard) → IsServedAt x hs → IsHeardAt x hs }
 {}

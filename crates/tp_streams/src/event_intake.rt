@@ -78,7 +78,8 @@ impl EventIntake {
         ensures leaves { LeavesEvents self.old (S.left source.old) result self.new (S.left source.new) }
         // Promise 2.32, part 2 [clauses stops cut_off again unread]
         ensures stops { self.old.place.stop ≡ None → IfErr result (IsEventStop (suc self.old.place.at) (S.fault_count source.old) (S.fault_count source.new)) }
-        ensures cut_off { (n : ℕ) → self.old.place.stop ≡ None → result ≡ Err (Stop.ReadFault n) → IsCutOff self.old.place (S.left source.old) self.new.place (S.left source.new) }
+        ensures cut_off { (n : ℕ) → self.old.place.stop ≡ None → result ≡ Err (Stop.ReadFault n)
+            → IsCutOff self.old.place (S.left source.old) self.new.place (S.left source.new) }
         ensures again { (stop : Stop) → self.old.place.stop ≡ Some stop → result ≡ Err stop }
         // Promise 2.39, part 2
         ensures unread { is_at_hand self.old.place ≡ true → source.new ≡ source.old }

@@ -64,7 +64,8 @@ impl Feed {
     /// Reads on, and answers how many bytes came. Without memory these may be gone.
     pub(crate) fn pull<S: Source>(&mut self, alloc: Global, source: &mut S) -> Result<usize, Stop>
         ensures gains { IfOk result (Gains self.old self.new (S.left source.old) (S.left source.new)) }
-        ensures stops { IfErr result (IsPullStop (S.fault_count source.old) (S.fault_count source.new) self.old self.new (S.left source.old) (S.left source.new)) }
+        ensures stops { IfErr result (IsPullStop (S.fault_count source.old) (S.fault_count source.new) self.old self.new (S.left source.old)
+            (S.left source.new)) }
         ensures kept { S.fault_count source.old ≤ S.fault_count source.new }
     {
         let mut piece = [0; PIECE];

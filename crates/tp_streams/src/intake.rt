@@ -70,7 +70,8 @@ impl Intake {
         //   where the source's count rose; no byte is lost then, and each frame that was read whole
         //   was handed out
         ensures stops { self.old.stop ≡ None → IfErr result (IsFrameStop (suc self.old.at) (S.fault_count source.old) (S.fault_count source.new)) }
-        ensures cut_off { (n : ℕ) → self.old.stop ≡ None → result ≡ Err (Stop.ReadFault n) → IsCutOff self.old (S.left source.old) self.new (S.left source.new) }
+        ensures cut_off { (n : ℕ) → self.old.stop ≡ None → result ≡ Err (Stop.ReadFault n)
+            → IsCutOff self.old (S.left source.old) self.new (S.left source.new) }
         ensures again { (stop : Stop) → self.old.stop ≡ Some stop → result ≡ Err stop }
         // Promise 2.39: Where the next frame is at hand, or a bad length, or a stop came before,
         //   the next call reads nothing of the source

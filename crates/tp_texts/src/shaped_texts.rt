@@ -141,9 +141,8 @@ fn some_branch_reads(branch: Option<BranchId>)
     requires { is_there branch ≡ true }
     ensures { Takes read_some_branch (maybe_bytes branch_bytes branch) branch }
 {
-    match branch {
-        None => unreachable!(),
-        Some(branch) => branch_reads(branch),
+    if let Some(branch) = branch {
+        branch_reads(branch);
     }
 }
 
@@ -162,13 +161,9 @@ fn branch_and_superior_read(branch: Option<BranchId>, superior: Option<Addr>)
     requires { has_superior superior ≡ is_there branch }
     ensures { Takes read_branch_and_superior (maybe_bytes branch_bytes branch ++ superior_bytes superior) (branch, superior) }
 {
-    match (branch, superior) {
-        (None, None) => {}
-        (Some(branch), Some(addr)) => {
-            branch_reads(branch);
-            addr_reads(addr);
-        }
-        (None, Some(_)) | (Some(_), None) => unreachable!(),
+    if let (Some(branch), Some(addr)) = (branch, superior) {
+        branch_reads(branch);
+        addr_reads(addr);
     }
 }
 
@@ -179,8 +174,7 @@ fn judgement_reads(side: Outcome, report: Report)
     ensures { Takes read_judgement (outcome_bytes side ++ report_bytes report) (side, report) }
 {
     match report {
-        Report::None => unreachable!(),
-        Report::Hazard | Report::Mix => {}
+        Report::None | Report::Hazard | Report::Mix => {}
     }
 }
 

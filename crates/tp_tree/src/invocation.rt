@@ -252,6 +252,7 @@ impl Invocation {
         }
     }
 
+    // Promise 10.5, part 4 [clauses value arcs]
     /// Adds an arc with no association, on which the node is that side: an arc to a subordinate stands
     /// after the others, and the one to the superior before them. It takes no memory where all of the room is reserved.
     /// Without memory nothing changes.
@@ -272,7 +273,7 @@ impl Invocation {
         Ok(())
     }
 
-    // Promise 10.5, part 4
+    // Promise 10.5, part 5
     /// Takes away the arc with the peer of that number, where there is one.
     #[tactic(auto, using(crate::proofs::Arcs::arcs_without))]
     pub fn remove(&mut self, peer: u16)

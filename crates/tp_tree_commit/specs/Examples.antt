@@ -16,4 +16,5 @@ EndsTogether = (s : Tree) × (p : Part) × (q : Part) × OfTwo s p q × HasCompl
 
 -- one is told commit, and the other rollback: sentence 1 names the branch, which decided on its own
 abbrev pub EndsApart : Type 0
-EndsApart = (s : Tree) × (p : Part) × (q : Part) × OfTwo s p q × (told p ≡ Some Outcome.Commit) × (told q ≡ Some Outcome.Rollback) × (q.decision ≡ Some Outcome.Rollback)
+EndsApart = (s : Tree) × (p : Part) × (q : Part) × OfTwo s p q × (told p ≡ Some Outcome.Commit) × (told q ≡ Some Outcome.Rollback)
+    × (q.decision ≡ Some Outcome.Rollback)

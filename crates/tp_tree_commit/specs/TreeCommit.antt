@@ -92,13 +92,15 @@ pub data Acts (s : Tree) (n : ℕ) : Option Part → Part → Type 0 where
   -- it leaves instead where each of them left
   Leaves : (p : Part) → (p.superior ≢ None) → IsActive p → EachBranch s n HasLeft → Acts s n (Some p) (record p { vote = Vote.Left })
   -- the root commits once each of its branches has voted; a branch that is ready commits once its superior has
-  Commits : (p : Part) → (IsRoot p × IsActive p × EachBranch s n HasVoted) ⊎ (IsInDoubt p × Superior s p HasCommitted) → Acts s n (Some p) (record p { ending = Ending.Committed })
+  Commits : (p : Part) → (IsRoot p × IsActive p × EachBranch s n HasVoted) ⊎ (IsInDoubt p × Superior s p HasCommitted)
+      → Acts s n (Some p) (record p { ending = Ending.Committed })
   -- a node rolls back at will until it votes; one that is ready rolls back once its superior has
   Rolls : (p : Part) → IsActive p ⊎ (IsInDoubt p × Superior s p HasRolled) → Acts s n (Some p) (record p { ending = Ending.Rolled })
   -- while it is in doubt it may decide on its own, once; it still ends as its superior does
   Decides : (p : Part) (o : Outcome) → IsInDoubt p → (p.decision ≡ None) → Acts s n (Some p) (record p { decision = Some o })
   -- its commitment is complete with no report where it did not decide against it, and each of its branches left or is complete so
-  Completes : (p : Part) → HasCommitted p → (p.clear ≡ false) → (p.decision ≢ Some Outcome.Rollback) → EachBranch s n IsOver → Acts s n (Some p) (record p { clear = true })
+  Completes : (p : Part) → HasCommitted p → (p.clear ≡ false) → (p.decision ≢ Some Outcome.Rollback) → EachBranch s n IsOver
+      → Acts s n (Some p) (record p { clear = true })
 
 -- ---- a run: from the tree with no node, one action after the other
 

@@ -20,9 +20,10 @@ pub fn the_page_keeps_its_sentences()
     ensures { (s : Tree) → Reached s → KeepsSentences s }
 {}
 
-// Promise 24.7 [tp_tree_commit/specs/Ends.antt]: Every run of the page comes to rest: each node
-//   acts at most five times, so there are at most five times as many steps as nodes in the tree
-/// Every run of the page comes to rest: its nodes act at most five times each, so it has at most five times as many steps as the tree has nodes.
+// Promise 24.7 [tp_tree_commit/specs/Ends.antt]: A run of the page that leads to a tree has at most
+//   five times as many steps as that tree has nodes, so it comes to rest where no more nodes enter
+/// Each node of the page acts at most five times, so a run of the page that leads to a tree has at most five times as many steps
+/// as that tree has nodes, and comes to rest where no more nodes enter.
 pub fn each_node_acts_at_most_five_times()
     ensures most { FiveAtMost }
     ensures counted { RunsAreCounted }

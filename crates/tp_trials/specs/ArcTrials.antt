@@ -91,7 +91,9 @@ is_prepare _ = false
 
 -- the next record over the arc between the two, as the node takes it
 abbrev pub comes : Addr → DialogueRecord → Node → Event
-comes from r x = Event.Arrive from (PeerRecord.OnAssoc (record { boot = 1; node = 1; count = 1 }) (record { boot = 1; node = 2; count = 1 }) (taken (digest x.origin x.history).arcs from.node) r)
+comes from r x = Event.Arrive from
+    (PeerRecord.OnAssoc (record { boot = 1; node = 1; count = 1 }) (record { boot = 1; node = 2; count = 1 })
+    (taken (digest x.origin x.history).arcs from.node) r)
 
 abbrev pub prepares : Node → Bool
 prepares x = puts (λ y arcs. is_prepare y.event && (taken y.arcs 1 == suc (taken arcs 1))) (comes above DialogueRecord.Prepare x) x
@@ -106,7 +108,8 @@ abbrev pub ends_aside : Node → Bool
 ends_aside x =
     let e : Event = comes below DialogueRecord.EndDialogue x in
     is_accepted (refuse x.origin x.history e) && puts_nothing e x
-    && stands_so (λ c arcs p. is_committing c.phase && is_peer c p && is_end_deferred_at arcs p && not (is_end_deferred_at (action x.origin.who (digest x.origin x.history) e).next.arcs p)) 2 x
+    && stands_so (λ c arcs p. is_committing c.phase && is_peer c p && is_end_deferred_at arcs p
+    && not (is_end_deferred_at (action x.origin.who (digest x.origin x.history) e).next.arcs p)) 2 x
 
 -- ---- a start
 
@@ -117,6 +120,7 @@ entangled = record {
   start = record {
     boot = 2;
     version = LogVersion.Two;
-    records = LogRec.Ready 2 (record { aaid = tree; branch = Some branch }) above (record { addr = above; branch = record branch { superior = codes "b" } } ∷ []) ∷ [];
+    records = LogRec.Ready 2 (record { aaid = tree; branch = Some branch }) above
+        (record { addr = above; branch = record branch { superior = codes "b" } } ∷ []) ∷ [];
   };
 }

@@ -65,16 +65,19 @@ heeded_answer p x = took_in (λ d. is_aaid tree_of_four (aaid_of d.key)) is_answ
 
 -- an order of the peer was taken in the tree, and Commit is logged
 abbrev pub heeded_order : ℕ → Node → Bool
-heeded_order p x = took_in (λ d. is_aaid tree_of_four (aaid_of d.key) && is_under_at d.key p) is_order x.origin p x.history && decided x.origin tree_of_four x.history
+heeded_order p x = took_in (λ d. is_aaid tree_of_four (aaid_of d.key) && is_under_at d.key p) is_order x.origin p x.history
+    && decided x.origin tree_of_four x.history
 
 -- a Done of the peer was taken in the tree, and its branch has ended
 abbrev pub heeded_done : ℕ → Node → Bool
 heeded_done p x =
-    took_in (λ d. is_aaid tree_of_four (aaid_of d.key) && is_committing d.phase && has_branch_at d.branches p) is_done x.origin p x.history && of_current (λ c. branch_is has_ended c p) x
+    took_in (λ d. is_aaid tree_of_four (aaid_of d.key) && is_committing d.phase && has_branch_at d.branches p) is_done x.origin p x.history
+    && of_current (λ c. branch_is has_ended c p) x
 
 -- no report was taken in the tree, and its commitment is complete with none
 abbrev pub ended_clear : Node → Bool
-ended_clear x = took_clear tree_of_four x.origin x.history && has_told_in tells_commit_complete x.origin tree_of_four x.history && completed_none x.origin tree_of_four x.history
+ended_clear x = took_clear tree_of_four x.origin x.history && has_told_in tells_commit_complete x.origin tree_of_four x.history
+    && completed_none x.origin tree_of_four x.history
 
 abbrev pub never_rolled : Node → Bool
 never_rolled x = not (rolled x.origin tree_of_four x.history)

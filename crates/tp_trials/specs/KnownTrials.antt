@@ -148,7 +148,8 @@ preparing = from_above 1 DialogueRecord.Prepare ∷ []
 
 -- and the node leaves; then a response comes, or user data
 abbrev pub leaving : List Event
-leaving = from_above 0 (DialogueRecord.Begin foretold (record { superior = codes "a"; mark = mark_of 1 2 }) Holder.None) ∷ from_above 1 DialogueRecord.Prepare ∷ Do Request.Unchanged ∷ []
+leaving = from_above 0 (DialogueRecord.Begin foretold (record { superior = codes "a"; mark = mark_of 1 2 }) Holder.None) ∷ from_above 1
+    DialogueRecord.Prepare ∷ Do Request.Unchanged ∷ []
 
 abbrev pub responding : List Event
 responding = from_above 2 DialogueRecord.Response ∷ []

@@ -111,7 +111,8 @@ key_of_root = record { aaid = record { owner = codes "a"; mark = drawn 2 }; bran
 -- the key that the node will draw has a vote already, a decision, and its damage
 abbrev pub with_a_roots_vote : List LogRec
 with_a_roots_vote =
-    LogRec.Boot 1 ∷ LogRec.Ready 1 key_of_root at_b [] ∷ LogRec.Heuristic 1 key_of_root Outcome.Commit ∷ LogRec.Damage 1 key_of_root None Outcome.Rollback Report.Mix [] ∷ []
+    LogRec.Boot 1 ∷ LogRec.Ready 1 key_of_root at_b [] ∷ LogRec.Heuristic 1 key_of_root Outcome.Commit ∷ LogRec.Damage 1 key_of_root None
+    Outcome.Rollback Report.Mix [] ∷ []
 
 abbrev pub opening : List LogRec → Opening
 opening rs = record { site = codes "a"; version = LogVersion.Two; records = rs }

@@ -101,7 +101,8 @@ regained =
 
 -- the root rolls; its branch, which stopped before it heard so, asks and is told that it knows of nothing
 abbrev pub told_unknown : List Happening
-told_unknown = readied ++ (Does (Action.Do 1 LineRequest.Rollback) ∷ Crash (codes "b") ∷ Does (Action.Retry 2) ∷ Does (Action.Again 7) ∷ Does (Action.Again 8) ∷ [])
+told_unknown = readied ++ (Does (Action.Do 1 LineRequest.Rollback) ∷ Crash (codes "b") ∷ Does (Action.Retry 2) ∷ Does
+    (Action.Again 7) ∷ Does (Action.Again 8) ∷ [])
 
 -- three nodes, each below the one before, in a transaction whose second node is told to prepare
 abbrev pub deep : List Happening
@@ -127,7 +128,8 @@ deep =
 
 -- the last leaves, and then the second
 abbrev pub deep_departed : List Happening
-deep_departed = deep ++ (Does (Action.Do 2 (LineRequest.Prepare 3)) ∷ Does (Action.Again 8) ∷ Does (Action.Do 3 LineRequest.Unchanged) ∷ Does (Action.Again 9) ∷ Does (Action.Do 2 LineRequest.Unchanged) ∷ [])
+deep_departed = deep ++ (Does (Action.Do 2 (LineRequest.Prepare 3)) ∷ Does (Action.Again 8) ∷ Does
+    (Action.Do 3 LineRequest.Unchanged) ∷ Does (Action.Again 9) ∷ Does (Action.Do 2 LineRequest.Unchanged) ∷ [])
 
 -- the last is ready, and then the second
 abbrev pub deep_readied : List Happening
@@ -168,7 +170,8 @@ deep_reported =
 
 -- the second and the last are done, and the root's user is not yet
 abbrev pub deep_done : List Happening
-deep_done = deep_readied ++ (Does (Action.Again 10) ∷ Does (Action.Again 11) ∷ Does (Action.Again 12) ∷ Does (Action.Do 3 LineRequest.Done) ∷ Does (Action.Again 13) ∷ Does (Action.Do 2 LineRequest.Done) ∷ [])
+deep_done = deep_readied ++ (Does (Action.Again 10) ∷ Does (Action.Again 11) ∷ Does (Action.Again 12) ∷ Does
+    (Action.Do 3 LineRequest.Done) ∷ Does (Action.Again 13) ∷ Does (Action.Do 2 LineRequest.Done) ∷ [])
 
 -- the last stops when it is ready, and learns the order, and says Done, beside the associations
 abbrev pub deep_replied : List Happening

@@ -109,7 +109,8 @@ has_completed x = decided x.origin tree_of_three x.history && completed_none x.o
 abbrev pub words_out : Bool → Addr → List Out → List Frame
 words_out now from [] = []
 words_out now from (Out.Tell i ∷ outs) = words_out now from outs
-words_out now from (Out.Send a r ∷ outs) = elim (is_word_of tree_of_three now r) [ true ↦ record { from = from; to = a; rec = r; handed = false } ∷ words_out now from outs | false ↦ words_out now from outs ]
+words_out now from (Out.Send a r ∷ outs) = elim (is_word_of tree_of_three now r)
+    [ true ↦ record { from = from; to = a; rec = r; handed = false } ∷ words_out now from outs | false ↦ words_out now from outs ]
 
 abbrev pub words_of : Origin → Addr → List Entry → List Frame
 words_of o from [] = []

@@ -87,7 +87,8 @@ pub fn an_arc_rests()
     ensures legal { (fits middle [] linked && fits middle (grows middle [] linked) leaving) ≡ true }
     ensures before { rests_in middle 1 (grows middle [] linked) ≡ false }
     ensures rests { rests_in middle 1 (grows middle (grows middle [] linked) leaving) ≡ true }
-    ensures responds { (fits middle (grows middle (grows middle [] linked) leaving) responding && rests_in middle 1 (grows middle (grows middle (grows middle [] linked) leaving) responding)) ≡ true }
+    ensures responds { (fits middle (grows middle (grows middle [] linked) leaving) responding
+        && rests_in middle 1 (grows middle (grows middle (grows middle [] linked) leaving) responding)) ≡ true }
     ensures speaks { fits middle (grows middle (grows middle [] linked) leaving) speaking ≡ true }
     ensures woken { rests_in middle 1 (grows middle (grows middle (grows middle [] linked) leaving) speaking) ≡ false }
     ensures all { agrees middle (grows middle (grows middle [] linked) leaving) ≡ true }
@@ -96,7 +97,8 @@ pub fn an_arc_rests()
 /// A superior gives control with a handshake: the node holds it once it has answered. Of its own dialogue with a subordinate
 /// it holds control from the start, until it grants it.
 pub fn control_is_handed_on()
-    ensures legal { (fits middle [] polarized && fits middle (grows middle [] polarized) entrusting && fits middle (grows middle (grows middle [] polarized) entrusting) replying) ≡ true }
+    ensures legal { (fits middle [] polarized && fits middle (grows middle [] polarized) entrusting
+        && fits middle (grows middle (grows middle [] polarized) entrusting) replying) ≡ true }
     ensures before { holds_in middle 1 (grows middle [] polarized) ≡ false }
     ensures shaken { holds_in middle 1 (grows middle (grows middle [] polarized) entrusting) ≡ false }
     ensures answered { holds_in middle 1 (grows middle (grows middle (grows middle [] polarized) entrusting) replying) ≡ true }
@@ -109,7 +111,8 @@ pub fn control_is_handed_on()
 /// Two dialogues stand in the order in which they were asked for; the first is broken off and asked for again, and stands
 /// after the other.
 pub fn arcs_stand_as_asked()
-    ensures legal { (fits middle [] linked && fits middle (grows middle [] linked) calling && fits middle (grows middle (grows middle [] linked) calling) recalling) ≡ true }
+    ensures legal { (fits middle [] linked && fits middle (grows middle [] linked) calling
+        && fits middle (grows middle (grows middle [] linked) calling) recalling) ≡ true }
     ensures before { peers_in (grows middle (grows middle [] linked) calling) ≡ 3 ∷ 4 ∷ [] }
     ensures after { peers_in (grows middle (grows middle (grows middle [] linked) calling) recalling) ≡ 4 ∷ 3 ∷ [] }
     ensures standing { not_idle middle (grows middle (grows middle (grows middle [] linked) calling) recalling) (4 ∷ 3 ∷ []) ≡ 4 ∷ 3 ∷ [] }
@@ -118,7 +121,8 @@ pub fn arcs_stand_as_asked()
 
 /// A handshake goes out, and its end waits for the response until that comes.
 pub fn a_response_is_awaited()
-    ensures legal { (fits middle [] polarized && fits middle (grows middle [] polarized) shaking && fits middle (grows middle (grows middle [] polarized) shaking) answering) ≡ true }
+    ensures legal { (fits middle [] polarized && fits middle (grows middle [] polarized) shaking
+        && fits middle (grows middle (grows middle [] polarized) shaking) answering) ≡ true }
     ensures before { awaits_in middle 3 (grows middle [] polarized) ≡ false }
     ensures asked { awaits_in middle 3 (grows middle (grows middle [] polarized) shaking) ≡ true }
     ensures behind { awaits_in middle 3 (grows middle (grows middle (grows middle [] polarized) shaking) answering) ≡ false }
@@ -128,7 +132,9 @@ pub fn a_response_is_awaited()
 /// The superior gives control with a handshake: the node owes the response that gives it, until it responds; a Grant meanwhile
 /// decides of control, and the response gives none.
 pub fn a_response_gives_control()
-    ensures legal { (fits middle (grows middle [] polarized) entrusting && fits middle (grows middle (grows middle [] polarized) entrusting) replying && fits middle (grows middle (grows middle [] polarized) entrusting) granting) ≡ true }
+    ensures legal { (fits middle (grows middle [] polarized) entrusting
+        && fits middle (grows middle (grows middle [] polarized) entrusting) replying
+        && fits middle (grows middle (grows middle [] polarized) entrusting) granting) ≡ true }
     ensures before { due_in middle 1 (grows middle [] polarized) ≡ No_response }
     ensures owed { due_in middle 1 (grows middle (grows middle [] polarized) entrusting) ≡ Response_with_control }
     ensures behind { due_in middle 1 (grows middle (grows middle (grows middle [] polarized) entrusting) replying) ≡ No_response }
@@ -183,11 +189,14 @@ pub fn a_node_reports_its_own_damage()
 
 /// The branch of a node's own tree is counted with its Ready, and ends with the report of its Done, or is given up; or it leaves.
 pub fn a_branch_is_marked()
-    ensures legal { (fits middle [] beginning && fits middle (grows middle [] beginning) asking && fits middle (grows middle (grows middle [] beginning) asking) readying && fits middle (grows middle (grows middle (grows middle [] beginning) asking) readying) giving_up) ≡ true }
+    ensures legal { (fits middle [] beginning && fits middle (grows middle [] beginning) asking
+        && fits middle (grows middle (grows middle [] beginning) asking) readying
+        && fits middle (grows middle (grows middle (grows middle [] beginning) asking) readying) giving_up) ≡ true }
     ensures before { counted_in middle own_key 3 (grows middle (grows middle [] beginning) asking) ≡ false }
     ensures counted { counted_in middle own_key 3 (grows middle (grows middle (grows middle [] beginning) asking) readying) ≡ true }
     ensures ends { fits middle (grows middle (grows middle (grows middle [] beginning) asking) readying) ending_below ≡ true }
-    ensures ended { ended_in middle own_key own_child (grows middle (grows middle (grows middle (grows middle [] beginning) asking) readying) ending_below) ≡ Some Report.Hazard }
+    ensures ended { ended_in middle own_key own_child
+        (grows middle (grows middle (grows middle (grows middle [] beginning) asking) readying) ending_below) ≡ Some Report.Hazard }
     ensures given_up { given_up_in middle own_key 3 (grows middle (grows middle (grows middle (grows middle [] beginning) asking) readying) giving_up) ≡ true }
     ensures leaves { fits middle (grows middle (grows middle [] beginning) asking) leaving_below ≡ true }
     ensures left { left_in middle own_key 3 (grows middle (grows middle (grows middle [] beginning) asking) leaving_below) ≡ true }
@@ -198,11 +207,13 @@ pub fn a_branch_is_marked()
 /// A root has two branches, and tells the first one to prepare. When its user asks for commitment, only the other one is told
 /// then, and both were; so the questions look back over the whole transaction, and not at the entry in which it was asked.
 pub fn branches_are_told_to_prepare()
-    ensures legal { (fits middle [] forking && fits middle (grows middle [] forking) telling_first && fits middle (grows middle (grows middle [] forking) telling_first) asking) ≡ true }
+    ensures legal { (fits middle [] forking && fits middle (grows middle [] forking) telling_first
+        && fits middle (grows middle (grows middle [] forking) telling_first) asking) ≡ true }
     ensures before { (prepared_in middle fork_key 3 (grows middle [] forking) || prepared_in middle fork_key 4 (grows middle [] forking)) ≡ false }
     ensures first { prepared_in middle fork_key 3 (grows middle (grows middle [] forking) telling_first) ≡ true }
     ensures other { prepared_in middle fork_key 4 (grows middle (grows middle [] forking) telling_first) ≡ false }
-    ensures told { (prepared_in middle fork_key 3 (grows middle (grows middle (grows middle [] forking) telling_first) asking) && prepared_in middle fork_key 4 (grows middle (grows middle (grows middle [] forking) telling_first) asking)) ≡ true }
+    ensures told { (prepared_in middle fork_key 3 (grows middle (grows middle (grows middle [] forking) telling_first) asking)
+        && prepared_in middle fork_key 4 (grows middle (grows middle (grows middle [] forking) telling_first) asking)) ≡ true }
     ensures now { tells_now 4 (grows middle (grows middle (grows middle [] forking) telling_first) asking) ≡ true }
     ensures not_again { tells_now 3 (grows middle (grows middle (grows middle [] forking) telling_first) asking) ≡ false }
     ensures all { agrees middle (grows middle (grows middle (grows middle [] forking) telling_first) asking) ≡ true }
@@ -216,7 +227,8 @@ pub fn an_awaited_branch_is_lost()
     ensures live { link_in middle 4 (grows middle [] forking) ≡ Live (mark_of 2 2) (mark_of 4 1) 1 0 }
     ensures rolling { phase_in middle fork_key (grows middle (grows middle [] forking) losing) ≡ Phase.Rolling }
     ensures lost { link_in middle 4 (grows middle (grows middle [] forking) losing) ≡ Idle }
-    ensures unanswered { (counted_in middle fork_key 4 (grows middle (grows middle [] forking) losing) || left_in middle fork_key 4 (grows middle (grows middle [] forking) losing)) ≡ false }
+    ensures unanswered { (counted_in middle fork_key 4 (grows middle (grows middle [] forking) losing)
+        || left_in middle fork_key 4 (grows middle (grows middle [] forking) losing)) ≡ false }
     ensures all { agrees middle (grows middle (grows middle [] forking) losing) ≡ true }
 {}
 

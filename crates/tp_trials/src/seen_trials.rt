@@ -21,9 +21,11 @@ pub fn a_rollback_is_seen()
 /// is rolled back at once, and the node begins its own one in the same entry. The tree is current before and after it, as that of a
 /// branch and as that of a root, and rolls at neither; it is seen that it rolled.
 pub fn a_rollback_is_seen_between_two_ends()
-    ensures legal { (fits middle [] chained_below && fits middle (grows middle [] chained_below) foretelling_next && fits middle (grows middle (grows middle [] chained_below) foretelling_next) breaking_off) ≡ true }
+    ensures legal { (fits middle [] chained_below && fits middle (grows middle [] chained_below) foretelling_next
+        && fits middle (grows middle (grows middle [] chained_below) foretelling_next) breaking_off) ≡ true }
     ensures before { is_open_at drawn_next (digest middle (grows middle (grows middle [] chained_below) foretelling_next)).current ≡ true }
-    ensures behind { is_open_at drawn_next (digest middle (grows middle (grows middle (grows middle [] chained_below) foretelling_next) breaking_off)).current ≡ true }
+    ensures behind { is_open_at drawn_next
+        (digest middle (grows middle (grows middle (grows middle [] chained_below) foretelling_next) breaking_off)).current ≡ true }
     ensures rolled { rolled middle drawn_next (grows middle (grows middle (grows middle [] chained_below) foretelling_next) breaking_off) ≡ true }
     ensures seen { rolled_seen middle drawn_next (grows middle (grows middle (grows middle [] chained_below) foretelling_next) breaking_off) ≡ true }
     ensures none { rolled_seen middle drawn_next (grows middle (grows middle [] chained_below) foretelling_next) ≡ false }

@@ -52,7 +52,8 @@ pub fn a_branch_leaves()
 /// Control goes to the branch with a Grant, and is back at the superior end when the transaction is over at both ends; while
 /// it is on its way neither end holds it.
 pub fn control_is_passed()
-    ensures linked { (holds (is_linked 2) granted 1 && holds (is_linked 1) granted 2 && holds (is_linked 2) regained 1 && holds (is_linked 1) regained 2) ≡ true }
+    ensures linked { (holds (is_linked 2) granted 1 && holds (is_linked 1) granted 2 && holds (is_linked 2) regained 1
+        && holds (is_linked 1) regained 2) ≡ true }
     ensures first { (holds has_control polarized 1 && not (holds has_control polarized 2)) ≡ true }
     ensures underway { (not (holds has_control granting 1) && not (holds has_control granting 2)) ≡ true }
     ensures granted { (not (holds has_control granted 1) && holds has_control granted 2) ≡ true }

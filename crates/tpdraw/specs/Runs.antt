@@ -81,5 +81,6 @@ Draws asked left Status.Ok old new = (form : Form) × (asked ≡ Some form) × (
 Draws asked left Status.Usage old new = new ≡ old
 Draws asked left (Status.BadInput at why) old new = (new ≡ old) × ((bytes : List ℕ) → left ≡ Some bytes → IsBadAt bytes at)
 Draws asked left (Status.ReadFault faults) old new = new ≡ old
-Draws asked left (Status.WriteFault faults) old new = (form : Form) × (asked ≡ Some form) × ((bytes : List ℕ) → left ≡ Some bytes → PicturesPart form bytes old new)
+Draws asked left (Status.WriteFault faults) old new = (form : Form) × (asked ≡ Some form)
+    × ((bytes : List ℕ) → left ≡ Some bytes → PicturesPart form bytes old new)
 Draws asked left Status.NoMemory old new = new ≡ old

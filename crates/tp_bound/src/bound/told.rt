@@ -69,9 +69,9 @@ impl<D: Disk> Bound<D> {
         ensures shuts { IsShutBy D.fault_count (speaker self.old) self.old.disk (speaker self.new) self.new.disk }
         ensures unchanged { OnErr result (self.new ≡ self.old) }
         // Whatever moment the machine stops at, the disk opens to the content from before the call, or to that with it.
-        // Promise 8.10: While a store is not shut, whatever moment of a call the machine stops at,
-        //   a disk that tells its story opens to the content from before the call, or to that with
-        //   the writes of the Bind that it keeps
+        // Promise 8.10: While a store is not shut, whatever moment of a call with an indication of
+        //   its own node the machine stops at, a disk that tells its story opens to the content
+        //   from before the call, or to that with the writes of the Bind that it keeps
         ensures moments { node ≡ self.old.node
             → OpensThroughout (wish self.old.store self.old.current self.old.gate ind.now) self.old (D.told self.old.disk) (D.told self.new.disk) }
         // Where no call of the disk has failed, all bodies are on the disk, that which was added too.

@@ -67,7 +67,8 @@ fn request(alloc: Global, from: &mut Cursor) -> Result<Body, ReadFault>
 }
 
 fn arrive(alloc: Global, start: &mut Cursor) -> Result<Body, ReadFault>
-    ensures { GivesUnlessFull result start.new ((scan_make (λ from to xs. Body.Event (Event.Arrive from to xs)) with scan_addr with scan_addr with scan_octets 2000) start.old) }
+    ensures { GivesUnlessFull result start.new
+        ((scan_make (λ from to xs. Body.Event (Event.Arrive from to xs)) with scan_addr with scan_addr with scan_octets 2000) start.old) }
 {
     let from = start.addr()?;
     let to = start.addr()?;
@@ -108,7 +109,8 @@ fn tell(alloc: Global, from: &mut Cursor) -> Result<Body, ReadFault>
 }
 
 fn send(alloc: Global, start: &mut Cursor) -> Result<Body, ReadFault>
-    ensures { GivesUnlessFull result start.new ((scan_make (λ from to xs. Body.Output (Output.Send from to xs)) with scan_addr with scan_addr with scan_sent) start.old) }
+    ensures { GivesUnlessFull result start.new
+        ((scan_make (λ from to xs. Body.Output (Output.Send from to xs)) with scan_addr with scan_addr with scan_sent) start.old) }
 {
     let from = start.addr()?;
     let to = start.addr()?;

@@ -72,7 +72,8 @@ fn shut_assoc(from: &mut Cursor) -> Result<PeerRecord, ReadFault>
 }
 
 fn on_assoc(alloc: Global, from: &mut Cursor) -> Result<PeerRecord, ReadFault>
-    ensures { GivesUnlessFull result from.new ((scan_make (λ x y s r. PeerRecord.OnAssoc x y s r) with scan_mark with scan_mark with scan_long with scan_dialogue) from.old) }
+    ensures { GivesUnlessFull result from.new
+        ((scan_make (λ x y s r. PeerRecord.OnAssoc x y s r) with scan_mark with scan_mark with scan_long with scan_dialogue) from.old) }
 {
     let x = from.mark()?;
     let y = from.mark()?;
