@@ -96,7 +96,7 @@ impl<D: Disk> Gates<D> {
         Ok(Gates { log })
     }
 
-    // Promise 3.4, part 2
+    // Promise 3.4, part 3
     pub fn append(&mut self, alloc: Global, body: &[u8]) -> Result<u64, ForceFault>
         requires { IsBody body.now }
         ensures appended { IfOk result
@@ -112,7 +112,7 @@ impl<D: Disk> Gates<D> {
     /// How many bodies there are. Until a call of the disk fails, its bytes stand for them.
     pub fn count(&self) -> usize
         ensures is { result ≡ length self.now.bodies }
-        // Promise 3.4, part 3
+        // Promise 3.4, part 4
         ensures started { IsStarted (D.told self.now.disk) self.now.gate self.now.bodies self.now.shut }
     {
         let _shut = self.log.shut();

@@ -240,6 +240,7 @@ impl<D: Disk> Journal<D> {
     /// Until then the bytes stand for the list.
     pub fn shut(&self) -> Option<u64>
         ensures is { result ≡ self.now.shut }
+        // Promise 3.4, part 2
         ensures started { IsStarted (D.told self.now.disk) self.now.gate (bodies_in self.now) result }
     {
         self.log.shut()
