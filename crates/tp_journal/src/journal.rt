@@ -137,6 +137,12 @@ impl<D: Disk> Journal<D> {
     /// Forces one record as `force` does, and answers the place of its gate alone.
     pub fn append(&mut self, alloc: Global, rec: &LogRec) -> Result<u64, ForceFault>
         requires { HasText self.old.wide rec.now }
+        // Promise 3.4, part 2
+        // Promise 3.6, part 2
+        // Promise 3.7, part 2 [clauses forces untouched]
+        // Promise 3.8, part 2
+        // Promise 3.9, part 2
+        // Promise 3.10, part 2 [clauses forces order]
         ensures forces { Forces (standing_of self.old (D.fault_count self.old.disk) (D.told self.old.disk) (D.fuse self.old.disk)) rec.now
             (receipt_of rec.now result) (standing_of self.new (D.fault_count self.new.disk) (D.told self.new.disk) (D.fuse self.new.disk)) }
         ensures order { IfErr result (ComesInOrder self.old rec.now) }
@@ -240,7 +246,7 @@ impl<D: Disk> Journal<D> {
     /// Until then the bytes stand for the list.
     pub fn shut(&self) -> Option<u64>
         ensures is { result ≡ self.now.shut }
-        // Promise 3.4, part 2
+        // Promise 3.4, part 3
         ensures started { IsStarted (D.told self.now.disk) self.now.gate (bodies_in self.now) result }
     {
         self.log.shut()
