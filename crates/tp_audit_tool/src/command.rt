@@ -48,8 +48,8 @@ fn text_of(alloc: Global, verdict: &Verdict, fates: &[Fate]) -> Result<Octets, N
 }
 
 /// Reads frames that hold the logs of several sites, and writes the verdict over them and the fate of each node that is in
-/// doubt, as lines. It answers how many findings there are, and which logs do not belong together. Nothing is written before the
-/// whole input was read, so a stop of the sink alone leaves a prefix of the lines.
+/// doubt, as lines. It answers how many findings there are, and which logs do not belong together. A stop of the sink leaves a
+/// prefix of the lines, and every other stop nothing.
 pub fn audit<S: Source, K: Sink>(
     alloc: Global,
     source: &mut S,
