@@ -69,7 +69,8 @@ impl Audit {
     pub fn add(&mut self, alloc: Global, site: &SiteName, list: &[LogRec]) -> Result<(), AddFault>
         ensures ok { OnOk result ((logs : List SiteLog) → IsAuditOf logs self.old → IsAuditOf (with_log logs site.now list.now) self.new) }
         ensures ordered { OnOk result (all_follow list.now ≡ true) }
-        // Promise 9.1: A site whose log was added before is refused, and no other
+        // Promise 9.1: `add` answers Twice exactly where the site's log was added before, which
+        //   `contains` tells
         ensures twice { (logs : List SiteLog) → IsAuditOf logs self.old → (result ≡ Err TheFault.Twice) ↔ (is_added logs site.now ≡ true) }
         ensures disorder { (i : ℕ) → result ≡ Err (TheFault.Disorder i) → IsFirstOutOfOrder list.now (Some i) }
         // Promise 9.3: After a refusal, and without memory, the logs are those from before
@@ -153,9 +154,10 @@ impl Audit {
         fates_in(alloc, &self.sites, self.ledger.doubts())
     }
 
-    // Promise 9.11 [tp_audit/specs/Mismatches.antt]: Logs that do not belong together are named
-    //   exactly where the fate of a node is `unknown`, a node committed in its tree and took no
-    //   decision of its own, and the log of the root's site was added and has no Commit of the root
+    // Promise 9.11 [tp_audit/specs/Mismatches.antt]: Once the lines are written, logs that do not
+    //   belong together are named exactly where the fate of a node is `unknown`, a node committed
+    //   in its tree and took no decision of its own, and the log of the root's site was added and
+    //   has no Commit of the root; else none are
     /// The logs that do not belong together, by the fates: one mismatch for each fate that is `Unknown`, in their order, where a node
     /// committed in its tree and the log of the root's site was added and has no Commit of the root.
     pub fn mismatches(&self, alloc: Global, fates: &[Fate]) -> Result<Vec<Mismatch>, NoMemory>

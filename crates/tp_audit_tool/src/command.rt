@@ -48,24 +48,24 @@ fn text_of(alloc: Global, verdict: &Verdict, fates: &[Fate]) -> Result<Octets, N
 }
 
 /// Reads frames that hold the logs of several sites, and writes the verdict over them and the fate of each node that is in
-/// doubt, as lines. It answers how many findings there are, and which logs do not belong together. Nothing is written before the
-/// whole input was read, so a stop of the sink alone leaves a prefix of the lines.
+/// doubt, as lines. It answers how many findings there are, and which logs do not belong together. A stop of the sink leaves a
+/// prefix of the lines, and every other stop nothing.
 pub fn audit<S: Source, K: Sink>(
     alloc: Global,
     source: &mut S,
     sink: &mut K,
 ) -> Result<Audited, Stop>
     // Promise 9.7: Frames out of a source that tells its bytes are read as the definitions read
-    //   them; the verdict and the fates are written as lines, to the byte, and one finding is
-    //   answered where two nodes ended apart
+    //   them; on Ok the verdict and the fates are written as lines, to the byte, and one finding is
+    //   answered exactly where the verdict is `differ`
     ensures audits { IfOk result (λ found. (bytes : List ℕ) → S.left source.old ≡ Some bytes
         → Audits bytes found.findings (S.left source.new) (K.written sink.old) (K.written sink.new)) }
     // Promise 9.11, part 2
     ensures mismatches { IfOk result (λ found. (bytes : List ℕ) → S.left source.old ≡ Some bytes → NamesMismatches bytes found.mismatches.items) }
     // Promise 9.8: A bad frame, a limit or a foreign log is told exactly as the definitions tell
-    //   the first that comes
-    // Promise 9.9 [clauses stopped untouched]: Nothing is written before the whole input was read;
-    //   where the sink fails a prefix is written, and after every other stop nothing is
+    //   the first that comes, unless the source fails before
+    // Promise 9.9 [clauses stopped untouched]: Where the sink fails, the input is good to its end
+    //   and a prefix of the lines is written; after every other stop nothing is
     ensures stopped { IfErr result
         (λ stop. (bytes : List ℕ) → S.left source.old ≡ Some bytes → StopsAudit bytes (K.written sink.old) (K.written sink.new) stop) }
     // Promise 9.10: A fault of the source or of the sink comes only where its count rose, with the

@@ -74,8 +74,8 @@ impl<D: Disk> Bound<D> {
     /// the byte at which the disk has no log, or of the gate of the first body that breaks the rules; DiskFault the count of
     /// the disk's failed calls. With a fault the disk comes back.
     pub fn open(alloc: Global, disk: D, node: u16) -> Result<Bound<D>, (D, StartFault)>
-        // Promise 8.1: A store opens exactly where its log starts and all of its bodies may stand,
-        //   and then holds what they stand for
+        // Promise 8.1 [clauses opened refused]: A store opens exactly where its log starts and all
+        //   of its bodies may stand, and then holds what they stand for
         ensures opened { IfOk result (λ bound. Opens (D.told disk) (D.told bound.disk) node bound) }
         // Promise 8.2: Foreign comes exactly as the log's, or at the first body that breaks the
         //   rules; DiskFault comes as the log's

@@ -19,8 +19,8 @@ pub fn bodies_have_texts()
     ensures { IsGrammar body_grammar }
 {}
 
-// Promise 8.6: A write gives its key a value or takes it out, leaves every other key as it was, and
-//   keeps the keys in order
+// Promise 8.6: Where the keys are in order, a write gives its key a value or takes it out, leaves
+//   every other key as it was, and keeps them in order
 /// A write gives its key a value, or takes it out, and leaves every other key as it was; the keys stay in order.
 pub fn a_write_changes_its_key_alone()
     ensures put { (c : Content) (k v : List ℕ) → value_of (put c k v) k ≡ Some v }
@@ -30,8 +30,9 @@ pub fn a_write_changes_its_key_alone()
     ensures ascends { (c : Content) (ws : List Write) → Ascends c → Ascends (made c ws) }
 {}
 
-// Promise 8.7: No file opens to two contents, nor to two stores
-/// No file opens to two contents, nor to two stores: a store that is opened again over the same bytes holds what it held.
+// Promise 8.7: No file of fewer than 2^64 bytes opens to two contents, nor to two stores
+/// No file of fewer than 2^64 bytes opens to two contents, nor to two stores: a store that is opened again over the same bytes
+/// holds what it held.
 pub fn a_file_opens_to_one_content()
     ensures contents { (file : List ℕ) (a b : Content) → length file < 2 ^ 64 → OpensTo a file → OpensTo b file → a ≡ b }
     ensures stores { (file : List ℕ) (xs ys : List (List ℕ)) (s t : Store) → length file < 2 ^ 64
@@ -40,19 +41,21 @@ pub fn a_file_opens_to_one_content()
     a_log_stands_for_one_list();
 }
 
-// Promise 8.12: After every list of indications without a fault the content is what was kept of
-//   them
-/// After every list of indications in which the disk did not fail, and between which the store may have been opened again,
-/// it holds what was kept of them: the writes of each transaction that was told commit after its vote for it, in order.
+// Promise 8.12: After every list of indications that a store heard from being empty on, without a
+//   fault of the disk, its content is what was kept of them
+/// After every list of indications that a store heard from being empty on, in which the disk did not fail, and between which the
+/// store may have been opened again, it holds what was kept of them: the writes of each transaction that was told commit after
+/// its vote for it, in order.
 pub fn the_content_is_what_was_kept()
     ensures { (first last : Speaker) (hs : List Heard) → first.store ≡ empty → first.current ≡ None → HearsAll first hs last → last.store.content ≡ kept hs }
 {}
 
-// Promise 8.13: Where each `commit` is told to a branch after its vote, the content has the writes
-//   of exactly the branches that were told `commit`, each once, in order
-/// Where a node starts no transaction of its own, its store holds the writes of exactly the branches that were told commit,
-/// each once, in the order in which they began: after every list of indications in which the disk did not fail, and between
-/// which the store may have been opened again.
+// Promise 8.13: Where a store hears indications from being empty on, without a fault of the disk,
+//   and each `commit` is told to a branch after its vote, its content is the writes of exactly the
+//   branches that were told `commit`, each once, in order
+/// Where each commit is told to a branch after its vote, the store holds the writes of exactly the branches that were told
+/// commit, each once, in the order in which they began: after every list of indications that it heard from being empty on, in
+/// which the disk did not fail, and between which the store may have been opened again.
 pub fn the_content_is_of_the_committed_branches()
     ensures { (first last : Speaker) (hs : List Heard) → first.store ≡ empty → first.current ≡ None → HearsAll first hs last → OfBranches hs
         → last.store.content ≡ made [] (all_written (committed hs)) }

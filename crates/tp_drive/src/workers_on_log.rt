@@ -37,10 +37,10 @@ pub fn drive<R: Threads + Wait + Sync, D: Disk + Send, G: Gate + Sync>(
     gate: &G,
 ) -> Result<Driven<D>, (Journal<D>, DriveFault)>
     requires { (1 ≤ workers) × (workers ≤ 16) }
-    // Promise 6.1: The outputs, event by event, are those of one thread, for 1 to 16 workers
-    // Promise 6.2: After the boot the log's records are an interleaving of what each lane's own
-    //   events force, each with one receipt, in order and with its place; with them it is within
-    //   its limit
+    // Promise 6.1: On Ok the outputs, event by event, are those of one thread, for 1 to 16 workers
+    // Promise 6.2: On Ok the log's records after the boot are an interleaving of what each lane's
+    //   own events force, each with one receipt, in order and with its place; with them it is
+    //   within its limit
     ensures done { IfOk result (λ d. IsDriven (opening_on journal name) workers events.now d.outs d.receipts d.journal.wide d.journal.list) }
     ensures open { IfOk result (λ d. d.journal.shut ≡ None) }
     // Promise 6.8 [clauses images images_left]: Where the disk tells its story, a crash since the
@@ -58,8 +58,7 @@ pub fn drive<R: Threads + Wait + Sync, D: Disk + Send, G: Gate + Sync>(
     // Promise 6.6: `Full` comes only of a log that is not shut, in which one more record of the
     //   greatest length would have had no room; the event is the least at which a lane stopped for
     //   another cause than memory
-    // Promise 6.7: `LogDiffers` never comes: each receipt that a worker was given tells its record,
-    //   and the place that this has in the journal's list
+    // Promise 6.7: `LogDiffers` never comes
     // Promise 6.10: Where memory runs out after the boot, the journal's list has after it an
     //   interleaving of prefixes of the lanes' records
     ensures fails { IfErr result (λ e. Fails (λ j. standing_of j (D.fault_count j.disk) (D.told j.disk) (D.fuse j.disk)) journal name

@@ -36,8 +36,8 @@ pub fn run_drive<R: Threads + Wait + Sync, S: Source, K: Sink, D: Disk + Send, G
 ) -> (Status, D)
     ensures usage { result.0 ≡ TheStatus.Usage → is_drive (drive_said (map (λ w. w.now) words.now)) ≡ false }
     // Promise 7.2: The whole input is read before the disk is touched: the first frame that is bad
-    //   or passes a limit ends the run exactly there, unless memory runs out before, and the disk
-    //   is as it was
+    //   or passes a limit ends the run exactly there, unless the source fails or memory runs out
+    //   before, and the disk is as it was
     // Promise 7.3: **On Ok what is written is, to the byte, what `node` writes of the same input on
     //   the log that the file has**: the frames of the outputs of all events, with Over after those
     //   of each
@@ -46,14 +46,15 @@ pub fn run_drive<R: Threads + Wait + Sync, S: Source, K: Sink, D: Disk + Send, G
     //   leaves all of them
     // Promise 7.5: A crash at any moment since the first sync left the log on which the site began,
     //   with its boot or without, or one with the first of those records. So it is where memory
-    //   runs out: then the log has, after the boot, an interleaving of the first records of each
-    //   lane
+    //   runs out once the site began, and then the log has, after the boot, an interleaving of the
+    //   first records of each lane; before that the log stays as it was
     // Promise 7.6 [clauses answers silent]: Where the sink fails a prefix was written and the log
-    //   is as on Ok; with every other status nothing is written
-    // Promise 7.7: Foreign comes exactly where the bytes are no log in order, and a limit at 0
-    //   exactly where no boot number is left or the boot has no room
-    // Promise 7.8: A limit of the log in a frame and a fault of the disk come as `drive` says, with
-    //   the log that is then left; `LogDiffers` never comes
+    //   is as on Ok; with every status but Ok and the sink's fault nothing is written
+    // Promise 7.7: Of an input that is good to its end, where nothing outside fails, Foreign comes
+    //   exactly where the bytes are no log in order. A limit at 0 comes only where no boot number
+    //   is left or the boot has no room, and there no run ends with Ok
+    // Promise 7.8: A limit of the log in a frame, and a fault of the disk once the site began, come
+    //   as `drive` says, with the log that is then left; `LogDiffers` never comes
     ensures answers { Answers (drive_said (map (λ w. w.now) words.now))
         (record {
           told = D.told disk;

@@ -72,6 +72,7 @@ const EMPTY: [u8; 6] = [79, 84, 80, 76, 1, 0];
 impl<D: Disk> Gates<D> {
     /// Makes the disk hold a log of no bodies alone, whatever it held.
     pub fn format(disk: &mut D) -> Result<(), Failed>
+        // Promise 3.15, part 4
         ensures formatted { OnOk result ((s : Story) → D.told disk.old ≡ Some s → IsOn (D.told disk.new) (head 1 ++ 0 ∷ [])) }
         ensures untold { D.told disk.old ≡ None → D.told disk.new ≡ None }
         ensures kept { D.fault_count disk.old ≤ D.fault_count disk.new }
@@ -96,7 +97,7 @@ impl<D: Disk> Gates<D> {
         Ok(Gates { log })
     }
 
-    // Promise 3.4, part 2
+    // Promise 3.4, part 4
     pub fn append(&mut self, alloc: Global, body: &[u8]) -> Result<u64, ForceFault>
         requires { IsBody body.now }
         ensures appended { IfOk result
@@ -112,6 +113,7 @@ impl<D: Disk> Gates<D> {
     /// How many bodies there are. Until a call of the disk fails, its bytes stand for them.
     pub fn count(&self) -> usize
         ensures is { result ≡ length self.now.bodies }
+        // Promise 3.4, part 5
         ensures started { IsStarted (D.told self.now.disk) self.now.gate self.now.bodies self.now.shut }
     {
         let _shut = self.log.shut();

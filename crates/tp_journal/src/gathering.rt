@@ -162,6 +162,7 @@ impl<D: Disk> Gathering<D> {
     /// Notes one record as `force` does, and answers the place of its gate alone.
     pub fn append(&mut self, alloc: Global, rec: &LogRec) -> Result<u64, ForceFault>
         requires { HasText self.old.journal.wide rec.now }
+        // Promise 3.20, part 2 [clauses notes disk]
         ensures notes { Forces (standing_of self.old.journal (D.fault_count self.old.journal.disk) None None) rec.now
             (receipt_of rec.now result) (standing_of self.new.journal (D.fault_count self.new.journal.disk) None None) }
         ensures order { IfErr result (ComesInOrder self.old.journal rec.now) }
@@ -222,9 +223,10 @@ impl<D: Disk> Gathering<D> {
         ensures stands { IfErr result (λ fault. self.new.settled ≡ self.old.settled) }
         ensures untouched { IfErr result (KeepsDisk self.old.journal.disk self.new.journal.disk) }
         // A crash at any moment of the call leaves the records that were on the disk, or these and all that were noted.
-        // Promise 3.21 [clauses moments last bytes]: At every moment of a settle an image is the
-        //   log without the noted records or with all of them; after Ok it is the log with all, and
-        //   the file is to the byte what it would be if each had been forced alone
+        // Promise 3.21 [clauses moments last bytes]: While the log is not shut, at every moment of
+        //   a settle an image is the log without the noted records or with all of them; after Ok it
+        //   is the log with all, and the file is to the byte what it would be if each had been
+        //   forced alone
         ensures moments { self.old.journal.shut ≡ None → (s : Story) → D.told self.old.journal.disk ≡ Some s
             → LeavesOnly (StandsForEither (bodies_settled self.old) (bodies_in self.old.journal)) (D.told self.old.journal.disk)
             (D.told self.new.journal.disk) }

@@ -61,8 +61,8 @@ impl<D: Disk> Model for Journal<D> {
 impl<D: Disk> Journal<D> {
     /// Reads the records of a log, and ends a change of generation that was cut short.
     pub fn start(alloc: Global, disk: D) -> Result<Journal<D>, (D, StartFault)>
-        // Promise 3.11: A start reads what the bytes stand for, and ends what was cut short; what
-        //   it leaves is told to the byte
+        // Promise 3.11: A start that ends Ok has read what the bytes stand for, and ended what was
+        //   cut short; what it leaves is told to the byte
         ensures started { IfOk result (λ j. Starts (D.told disk) (D.told j.disk) j.gate (bodies_in j) × (j.shut ≡ None)) }
         ensures texts { IfOk result (λ j. AllByRecursion (HasText j.wide) j.list) }
         // Promise 3.12: A start that ends Ok over a log whose records begin the file makes one
@@ -85,19 +85,22 @@ impl<D: Disk> Journal<D> {
         requires { HasText self.old.wide rec.now }
         // Promise 3.4: While a journal is not shut, at every moment of a force an image is the log
         //   before it or the log with the record, and after Ok it is the log with the record alone
-        // Promise 3.6: After a force the file is what it was, but that the gate is open and the
-        //   record and the next gate stand after it
+        // Promise 3.6: After a force that ends Ok the file is what it was, but that the gate is
+        //   open and the record and the next gate stand after it
         // Promise 3.7 [clauses forces untouched]: After `Full`, `Shut` and out of memory the disk
         //   is as it was before the force
-        // Promise 3.8: Over a disk with a fuse, which fails at no other call, a force makes four
-        //   changing calls, or stops in one of them and leaves the fill in place of the record
-        //   (calls 1 and 2) or of the gate (3 and 4), or there was no memory for one
-        // Promise 3.9: A fault of the disk in a force carries the count right after the call that
-        //   failed, where the keeper tells a length
+        // Promise 3.8: Over a disk with a fuse that has not stopped, has made fewer than 2^64 - 4
+        //   changing calls and fails at no other, a force that ends Ok makes four; one that ends
+        //   with a fault of the disk stopped in one of them and leaves the fill in place of the
+        //   record (calls 1 and 2) or of the gate (3 and 4), or there was no memory for one; one
+        //   that ends otherwise makes none
+        // Promise 3.9: A fault of the disk in a force carries the count of faults that the disk has
+        //   when the force ends
         ensures forces { Forces (standing_of self.old (D.fault_count self.old.disk) (D.told self.old.disk) (D.fuse self.old.disk)) rec.now
             result (standing_of self.new (D.fault_count self.new.disk) (D.told self.new.disk) (D.fuse self.new.disk)) }
-        // Promise 3.10: Out of memory and a fault of the disk come of a force only where there is
-        //   room for the record, and a journal that is shut answers nothing else
+        // Promise 3.10 [clauses forces order]: Out of memory and a fault of the disk come of a
+        //   force only where there is room for the record, and a journal that is shut answers
+        //   `Shut` alone
         ensures order { IfErr result (ComesInOrder self.old rec.now) }
         ensures untouched { IfErr result (KeepsDisk self.old.disk self.new.disk) }
         // Promise 25.5: At every moment of a force, and of a settle, an image has the bytes before
@@ -134,6 +137,12 @@ impl<D: Disk> Journal<D> {
     /// Forces one record as `force` does, and answers the place of its gate alone.
     pub fn append(&mut self, alloc: Global, rec: &LogRec) -> Result<u64, ForceFault>
         requires { HasText self.old.wide rec.now }
+        // Promise 3.4, part 2
+        // Promise 3.6, part 2
+        // Promise 3.7, part 2 [clauses forces untouched]
+        // Promise 3.8, part 2
+        // Promise 3.9, part 2
+        // Promise 3.10, part 2 [clauses forces order]
         ensures forces { Forces (standing_of self.old (D.fault_count self.old.disk) (D.told self.old.disk) (D.fuse self.old.disk)) rec.now
             (receipt_of rec.now result) (standing_of self.new (D.fault_count self.new.disk) (D.told self.new.disk) (D.fuse self.new.disk)) }
         ensures order { IfErr result (ComesInOrder self.old rec.now) }
@@ -155,7 +164,8 @@ impl<D: Disk> Journal<D> {
         Ok(place)
     }
 
-    // Promise 3.13: At every moment of a compaction an image is the list before it or the brief
+    // Promise 3.13: While a journal is not shut, at every moment of a compaction an image is the
+    //   list before it or the brief
     /// Puts the brief of the list in its place, in the version that the log has. `first_out_of_order` tells whether the
     /// list is in order.
     pub fn compact(&mut self, alloc: Global) -> Result<(), CompactFault>
@@ -181,8 +191,8 @@ impl<D: Disk> Journal<D> {
         Ok(())
     }
 
-    // Promise 3.14: At every moment of a migration an image is the list before it, or the brief in
-    //   version 2
+    // Promise 3.14: While a journal is not shut, at every moment of a migration an image is the
+    //   list before it, or the brief in version 2
     /// Makes the log of version 2, and puts the brief of the list in its place, which is in order as for `compact`. Where
     /// that log would have more than `MOST_BYTES` up to its closing gate, `Full` says how many, and nothing changes.
     pub fn migrate(&mut self, alloc: Global) -> Result<(), ForceFault>
@@ -236,6 +246,7 @@ impl<D: Disk> Journal<D> {
     /// Until then the bytes stand for the list.
     pub fn shut(&self) -> Option<u64>
         ensures is { result ≡ self.now.shut }
+        // Promise 3.4, part 3
         ensures started { IsStarted (D.told self.now.disk) self.now.gate (bodies_in self.now) result }
     {
         self.log.shut()

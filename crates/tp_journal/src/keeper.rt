@@ -3,8 +3,9 @@ use crate::{ForceFault, Receipt};
 use std::alloc::Global;
 use tp_logrec::LogRec;
 
-// Promise 3.5: So it is of any keeper of a log that tells a story, also to who knows of the keeper
-//   no more than the trait
+// Promise 3.5: 3.4 holds, of a force that ends Ok or with a fault of the disk, over any keeper of a
+//   log that tells a story, and after any other answer the story is as it was; also to who knows of
+//   the keeper no more than the trait
 // Promise 3.23, part 2
 // Promise 5.9: What is proved over `Keeper` holds over a journal and over a share
 /// What keeps the records of a log: a journal, or a share of a log under a lock.
@@ -70,8 +71,8 @@ pub enum Coming {
 }
 
 // Promise 3.23 [tp_journal/specs/Settling.antt]: A keeper that notes says of the images of a settle
-//   and of its faults what 3.21 and 3.22 say, also to who knows of it no more than the trait; no
-//   record that is noted changes what is on the disk
+//   and of its faults what 3.21 and 3.22 say, but for the bytes of the file, also to who knows of
+//   it no more than the trait; no record that is noted changes what is on the disk
 /// A keeper that runs ahead of its disk: what it is given is noted, and all that is noted is forced at once.
 pub trait Settles: Keeper {
     ghost use Rattle.tp_journal.specs.Settling.{SettlesTo};

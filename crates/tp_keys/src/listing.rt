@@ -23,11 +23,12 @@ fn stop_of(fault: StartFault) -> Stop
 /// hexadecimal, with a space between them, and `-` for an empty value. The disk comes back in any case. Foreign and DiskFault
 /// are as a store's start tells them, and then nothing was written; WriteFault tells the count of the sink's failed calls.
 pub fn keys<D: Disk, K: Sink>(alloc: Global, disk: D, sink: &mut K) -> Result<D, (D, Stop)>
-    // Promise 8.20: A line for each key of the store on a disk is written, in ascending order of
-    //   bytes, to the byte
+    // Promise 8.20: On Ok a line for each key of the store on a disk is written, in ascending order
+    //   of bytes, to the byte
     ensures printed { IfOk result (λ left. Prints D (D.told disk) (D.told left) (K.written sink.old) (K.written sink.new)) }
-    // Promise 8.21: Else the store's start says why and nothing is written, or the sink's fault
-    //   comes with its new count or memory runs out and a prefix of the lines is written
+    // Promise 8.21: Where `keys` does not end Ok, the store's start says why and nothing is
+    //   written, or the sink's fault comes with its new count or memory runs out and a prefix of
+    //   the lines is written
     ensures refused { IfErr result (λ e. RefusesKeys D (D.told disk) (D.told e.0) (D.fault_count disk) (D.fault_count e.0)
         (K.written sink.old) (K.written sink.new) (K.fault_count sink.old) (K.fault_count sink.new) e.1) }
 {

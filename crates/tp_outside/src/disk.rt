@@ -3,7 +3,8 @@
 use crate::Failed;
 
 // Promise 3.1, part 3
-// Promise 3.2: What a crash may leave of a disk is a function of the changing calls that were made
+// Promise 3.2: What a crash may leave of a disk is told by its story alone: its first content, and
+//   its changes since, each with what reads gave after it
 pub trait Disk {
     ghost use Rattle.std.specs.Prelude.{ℕ, Option, ◌≡◌, ◌≤◌, length, drop, IfOk, OnOk, OnErr};
     ghost use Rattle.tp_outside.specs.Faults.{HasRisen};

@@ -1,8 +1,8 @@
 //! Where bytes come from.
 use crate::Failed;
 
-// Promise 3.1: A source, a sink and a disk answer a fault only where their count of faults rose,
-//   and a call that failed takes or writes nothing
+// Promise 3.1: A source, a sink and a disk answer a fault only where their count of faults rose; a
+//   read of a source or a write to a sink that failed takes or writes nothing
 /// A stream of bytes to read. A clause speaks of the bytes left where the source tells them; no clause says that it does.
 pub trait Source {
     ghost use Rattle.std.specs.Prelude.{ℕ, List, Option, ◌≡◌, ◌≤◌, length, IfOk, OnErr};

@@ -24,11 +24,11 @@ fn make_log<D: Disk>(disk: &mut D) -> Result<(), Failed>
 /// Starts the store of a node on a disk, which gets a log of no bodies first where it is empty. With a fault the disk comes back;
 /// Foreign and DiskFault are as `Bound::open` tells them, and DiskFault comes also of a call that made the log.
 pub fn open_store<D: Disk>(alloc: Global, disk: D, node: u16) -> Result<Bound<D>, (D, StartFault)>
-    // Promise 8.18: The store that is member 3 of `replay` is opened on what its disk has or, where
-    //   that is empty, on a log of no bodies
+    // Promise 8.18: `open_store`, by which main of `tpnode` starts member 3 of `replay`, opens the
+    //   store on what its disk has or, where that is empty, on a log of no bodies
     ensures opened { IfOk result (λ bound. OpensAt (D.told disk) (D.told bound.disk) node bound) }
-    // Promise 8.19: Where it is not opened, Foreign is as its opening tells it, and DiskFault comes
-    //   only where the disk's count rose
+    // Promise 8.19: Where it does not open the store, Foreign is as the store's opening tells it,
+    //   and DiskFault comes only where the disk's count rose
     ensures refused { IfErr result (λ e. RefusesStore (D.told disk) (D.told e.0) (D.fault_count disk) (D.fault_count e.0) e.1) }
 {
     let mut disk = disk;

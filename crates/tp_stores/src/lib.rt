@@ -11,12 +11,12 @@ ghost use Rattle.tp_stores.specs.Served.{IsServedAt, AreOfBranches, HoldsItsBran
 ghost use Rattle.tp_stores.specs.StoreTrials.{commits, rolls_back, holds, commits_there, rolls_back_there, writes_and_commits, its_talk, at_first, at_last, IsSoThere};
 
 // Promise 8.14: In every run no two stores of one tree disagree about its transaction: where one
-//   has committed a branch of the tree, no other was told that its branch rolls back, if neither's
-//   node starts transactions of its own
+//   has committed a branch of the tree, no other was told that its branch rolls back, if both
+//   follow their nodes and neither's node starts transactions of its own
 /// In every run, no two stores of one tree disagree about its transaction. Where one store, at a node that starts no transaction
-/// of its own, counts a branch of the tree among the committed, whose writes its content has, no other such store was told that
-/// its branch of that tree rolls back. It holds whatever the stores answered, however often they were opened again, and whatever
-/// their nodes decided.
+/// of its own, counts a branch of the tree among the committed, no other such store was told that its branch of that tree rolls
+/// back. Each is to have heard what its node's user was told. It holds whatever the stores answered, however often they were
+/// opened again, and whatever their nodes decided.
 pub fn stores_agree()
     ensures { (es : List Happening) → StoresAgree (run es) }
 {}
@@ -26,20 +26,21 @@ pub fn all_that_is_told_is_heard()
     ensures { (x : Node) (hs : List Heard) → heard_of hs ≡ all_told x.history → IsHeardAt x hs }
 {}
 
-/// In every run, a store at a node that starts no transaction of its own, whose user asks for commitment only where the store has
-/// voted for it, has the writes of exactly the branches that its node was told to commit, each once, in the order in which they
-/// began: each commit is told to a branch after its vote, and those that the store counts are those that were told. It holds
-/// however often the store was opened again, while its disk does not fail.
+/// In every run, a store that was empty at first and heard what the user of its node was told, at a node that starts no
+/// transaction of its own, whose user asks for commitment only where the store has voted for it, has the writes of exactly the
+/// branches that its node was told to commit, each once, in the order in which they began: each commit is told to a branch after
+/// its vote, and those that the store counts are those that were told. It holds however often the store was opened again, while
+/// its disk does not fail.
 pub fn a_store_holds_its_branches()
-    // Promise 8.15 [clauses of_branches holds]: In every run the content of a store is the writes
-    //   of exactly the branches that it counts as committed, each once, in order, at a node that
-    //   starts no transaction of its own, whose user asks for commitment only where the store has
-    //   voted for it, while the disk does not fail
+    // Promise 8.15 [clauses of_branches holds]: In every run the content of a store that was empty
+    //   at first and follows its node is the writes of exactly the branches that it counts as
+    //   committed, each once, in order, at a node that starts no transaction of its own, whose user
+    //   asks for commitment only where the store has voted for it, while the disk does not fail
     ensures of_branches { (es : List Happening) → AreOfBranches (run es) }
     ensures holds { (es : List Happening) → HoldsItsBranches (run es) }
-    // Promise 8.16: In every run, at a node that starts no transaction of its own, a store counts a
-    //   branch only where the node was told `commit` in its tree, and wherever it was, if the store
-    //   heard all that the node's user was told
+    // Promise 8.16: In every run, at a node that starts no transaction of its own, a store that
+    //   follows it counts a branch only where the node was told `commit` in its tree, and wherever
+    //   it was, if the store heard all that the node's user was told
     ensures counts { (es : List Happening) → CountsCommits (run es) }
     ensures agree { (x : Node) (hs : List Heard) → IsServedAt x hs → IsHeardAt x hs }
 {}

@@ -50,13 +50,14 @@ impl<D: Disk> Bound<D> {
         // The indications of other nodes are nothing to it.
         ensures others { IfOk result (λ told. node ≢ self.old.node → (told ≡ None) × (self.new ≡ self.old)) }
         // A body that is needed is added, and the answer follows; or the disk has failed.
-        // Promise 8.8: What a store does with an indication, and what it answers, is the table of
-        //   SERVICE
+        // Promise 8.8: What a store does with an indication of its own node, and what it answers,
+        //   is the table of SERVICE
         // Promise 8.9: A body that was needed is missing only where the disk's count rose in the
         //   call, or the log was shut before
-        // Promise 8.11 [clauses tells forced]: When a call has answered and the disk has not
-        //   failed, all bodies are on the disk: the Bind before the answer `commit`, the Keep
-        //   before the answer `done`
+        // Promise 8.11 [clauses tells shuts forced]: When a call has answered and the disk's count
+        //   of faults has not risen since the store was opened, all bodies are on the disk: the
+        //   Bind before the answer `commit`, the Keep of a Bind that was undecided before the
+        //   answer `done` to `commit`
         ensures tells { IfOk result (λ told. node ≡ self.old.node
             → Tells (wish self.old.store self.old.current self.old.gate ind.now) self.old (D.fault_count self.old.disk) told self.new
             (D.fault_count self.new.disk)) }
