@@ -27,10 +27,10 @@ pub fn a_log_of_version_1_is_as_one_of_version_2()
 pub fn processes_leave_the_log()
     // Promise 22.8 [tp_processes/specs/Processes.antt]: Where each process of a site finds the file
     //   that the one before it left, or a compaction of it, each time a log of either version, the
-    //   file that the last one leaves is a log on which the next start knows what it would know on
-    //   the log of all that happened; none of its records is foreign, and each that is of a node
-    //   stands in that log. On a log of version 1, what a process refused for want of room has not
-    //   happened (22.24)
+    //   file that the last one leaves is a log on whose records, in version 2, the next start knows
+    //   what it would know on the log of all that happened; none of its records is foreign, and
+    //   each that is of a node stands in that log. On a log of version 1, what a process refused
+    //   for want of room has not happened (22.24)
     ensures leaves { ProcessesLeaveTheLog }
     // Promise 22.9 [tp_processes/specs/Processes.antt]: Where nothing was compacted, it is that log
     ensures whole { ProcessesLeaveItWhole }

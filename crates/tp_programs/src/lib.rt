@@ -17,9 +17,9 @@ pub fn a_run_of_node_is_a_process()
 {}
 
 // Promise 22.14 [tp_programs/specs/Runs.antt]: **So is a run of `tx`**: what a crash leaves is the
-//   log of a list of events that begins with those that its frames came to, all that was written
-//   answers these frames, and where the log was not opened, or the root's node was not declared,
-//   nothing was read or written
+//   log of a list of events; where the root's node was declared, these begin with the declaration
+//   and the events that its frames asked for, and all that was written answers these frames; where
+//   it was not, or the log was not opened, nothing was read or written
 /// So does what `transact` says.
 pub fn a_run_of_tx_is_a_process()
     ensures { FaceIsAProcess }
