@@ -22,9 +22,9 @@ ghost use Rattle.tp_control.specs.Control.{TookBack, TookMore, returned};
 ghost use Rattle.tp_control.specs.Leading.{IsLeading, IsLed, is_in_round, takes};
 
 // Promise 16.12: A subordinate end that holds control of a polarized dialogue took more of it than
-//   it returned, in the round that it has not answered
-/// In every run, a subordinate end that holds control of a polarized dialogue took more of it than it returned, counted in
-/// the round that it has not answered: by a Grant, by a handshake that grants, or with the transaction that its superior
+//   it returned, after the rounds that it has answered
+/// In every run, a subordinate end that holds control of a polarized dialogue took more of it than it returned, counted after
+/// the rounds that it has answered: by a Grant, by a handshake that grants, or with the transaction that its superior
 /// began.
 pub fn holders_below_took_more()
     ensures { (es : List Happening) → TookMore (run es) }

@@ -1,5 +1,5 @@
-//! Deployments as worked examples, computed by the prover: one that meets the premises of the law that a deployment is a run, and for
-//! each premise one that breaks it alone, and with it a promise. Each is the contract of a function with an empty body.
+//! Deployments as worked examples, computed by the prover: one that meets the premises of the law that a deployment is a run, and
+//! others that break one premise alone, and with it a promise. Each is the contract of a function with an empty body.
 #![tactic(auto)]
 
 ghost use Rattle.std.specs.Prelude.{◌≡◌, length, codes};

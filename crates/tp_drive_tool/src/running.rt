@@ -64,6 +64,7 @@ pub fn run_drive<R: Threads + Wait + Sync, S: Source, K: Sink, D: Disk + Send, G
           written = K.written sink.old;
           output = K.written sink.new;
         }) result.0 (source.new ≡ source.old) (sink.new ≡ sink.old) (result.1 ≡ disk) }
+    // Promise 22.23, part 2
     ensures silent { IsSilent result.0 → sink.new ≡ sink.old }
     // Promise 7.9: A fault comes only where that object's count rose in the call
     ensures ending { IsEnding (S.fault_count source.old) (S.fault_count source.new) (K.fault_count sink.old) (K.fault_count sink.new)

@@ -36,8 +36,9 @@ pub fn branches_of_a_drained_tree_are_there()
     ensures { (es : List Happening) → BranchesAreThere (run es) }
 {}
 
-// Promise 16.47: In a drained tree that is current still, a superior took its branch's answer, a
-//   branch its superior's order and, where nothing failed in the tree, a superior its branch's Done
+// Promise 16.47: In a drained tree what was said over associations was taken where the tree is
+//   current still: by a superior its branch's answer, by a branch its superior's order and, where
+//   nothing failed in the tree, by a superior its branch's Done
 /// In every run, in a drained tree a branch's answer is taken, by Ready or by leaving, while the tree is current
 /// at its superior, where it is current still.
 pub fn answers_of_branches_are_taken()
@@ -51,17 +52,17 @@ pub fn orders_of_superiors_are_taken()
     ensures { (es : List Happening) → OrdersAreTaken (run es) }
 {}
 
-// Promise 16.46: A superior takes a branch's Done only where it has logged Commit itself by then,
-//   of the tree whose Begin the Done answers
-/// In every run, a superior takes a branch's Done only where it has logged Commit itself by then, of the tree whose Begin the
-/// Done answers.
+// Promise 16.46: A superior takes a branch's Done over an association only where it has logged
+//   Commit itself by then, of the tree whose Begin the Done answers
+/// In every run, a superior takes a branch's Done over an association only where it has logged Commit itself by then, of the
+/// tree whose Begin the Done answers.
 pub fn dones_come_behind_the_decision()
     ensures { (es : List Happening) → DonesDecided (run es).nodes }
 {}
 
 // Promise 16.47, part 2
-/// In every run, in a drained tree without failure a branch's Done is taken in committing, by a superior that has the branch,
-/// where the tree is current there still.
+/// In every run, in a drained tree without failure a branch's Done that went over an association is taken in committing, by a
+/// superior that has the branch, where the tree is current there still.
 pub fn dones_of_branches_are_taken()
     ensures { (es : List Happening) → DonesAreTaken (run es) }
 {}

@@ -88,8 +88,8 @@ pub fn nothing_is_left_undone()
     //   branch is neither done, left nor given up
     ensures history { (o : Origin) (up : Option Addr) (h : List Entry) (c : Current) → IsGrown o up h → (digest o h).current ≡ Some c
         → is_left_undone c ≡ false }
-    // Promise 16.10: Nothing is left undone at a node: no vote, no order and no completed
-    //   commitment
+    // Promise 16.10: At a node no vote, no order to commit and no completed commitment is left
+    //   undone
     ensures run { (es : List Happening) (x : Node) (c : Current) → IsIn (run es) x → (digest x.origin x.history).current ≡ Some c → is_left_undone c ≡ false }
 {}
 

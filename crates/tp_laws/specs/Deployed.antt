@@ -7,12 +7,13 @@ use Rattle.tp_deployments.specs.Deployments.{Deed, Place, AreArranged, IsDeploym
 use Rattle.tp_deployments.specs.RunOf.{IsRunOf}
 use Rattle.tp_laws.specs.Whole.{AllPromised}
 
--- all that is promised of the world that a run leaves
+-- what is promised of the world that a run leaves, together
 abbrev pub DeploymentsKeep : Type 0
 DeploymentsKeep = (qs : List Place) (ds : List Deed) → AreArranged qs → IsDeployment qs ds
     → (es : List Happening) × IsRunOf qs ds (run es) × AllPromised (run es)
 
--- and what was so of a node in a tree stays so, whatever happens after it
+-- and what a node was told or decided in a tree, and that it logged Commit, rolled, left or was complete with no report, stays so,
+-- whatever happens after it
 abbrev pub DeploymentsStay : Type 0
 DeploymentsStay =
     (qs : List Place) (more ds : List Deed) → AreArranged qs → IsDeployment qs (more ++ ds)

@@ -1,4 +1,4 @@
--- All that is promised of the world that a run leaves, on one page: the definitions' own promises, and beside them what the laws
+-- What is promised of the world that a run leaves, on one page: the definitions' own promises, and beside them what the laws
 -- say of the nodes of one tree, of what was forced, and of reports. What holds between a run and what happens after it (what was
 -- told stays told; a settled tree has committed for good) is said by its own laws, which speak of two moments.
 use Rattle.tp_model.specs.World.{World}

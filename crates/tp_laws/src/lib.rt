@@ -47,7 +47,8 @@ pub fn prefix_taken()
     ensures { (es : List Happening) → PrefixTaken (run es) }
 {}
 
-// Promise 16.14: A node enters a tree once
+// Promise 16.14: A node takes the Begin of a tree at most once, and never that of a tree that it
+//   started itself
 /// In every run, a node takes the Begin of a tree at most once and never that of a tree of its own, and the node that drew
 /// a tree's identifier was declared no later than each node that knows it.
 pub fn trees_are_entered_once()
@@ -133,8 +134,9 @@ pub fn a_done_with_no_report_speaks_for_its_branch()
     ensures nodes { (es : List Happening) → DoneBelow (run es) }
 {}
 
-// Promise 16.48: **A drained tree without failure whose users all asked for commitment, or left,
-//   has committed at every staying node**, each with no report
+// Promise 16.48: **A tree whose nodes never failed and whose frames were all taken, and whose users
+//   all asked for commitment, or left, and owe no done, has committed at every staying node**, each
+//   with no report
 /// In every run, a drained tree without failure whose users all asked for commitment, or left, has committed: where each frame that
 /// its nodes sent was taken and no user owes its done, every node that stays logged Commit and was told that it is complete, with no
 /// report; and the tree's closing line says that all agree on commitment.
@@ -144,8 +146,8 @@ pub fn a_drained_tree_has_committed()
 {}
 
 // Promise 16.60: **So has a settled tree**, whatever failed at its nodes before it or after it, or
-//   of other dialogues, and whatever frames of these wait; and its closing line says so. A tree
-//   whose nodes never failed, and whose frames were all taken, is one
+//   of other dialogues, and whatever frames of these wait; and its closing line says so. A tree as
+//   in 16.48 is one
 /// So it is where this is asked of what is the tree's alone: its words were taken, and nothing failed in it while it was current at
 /// its nodes. A failure at a node before the tree began there or after it was over, or of another dialogue, does not count, nor do
 /// the frames of it. What is said of the whole life of the nodes is a case of it.
@@ -177,25 +179,27 @@ pub fn the_promises_are_kept()
     ensures { (es : List Happening) → Promised (run es) }
 {}
 
-// Promise 16.57 [tp_laws/specs/Whole.antt]: **All of these together**, as one record: 16.54 and
-//   16.55, and what each node of a tree counts, is told, forces and reports, and the tree's closing
-//   line
-/// In every run, all that the laws say of the world that it leaves: the promises above, and of the nodes of each tree what they are
-/// told, log, force and report.
+// Promise 16.57 [tp_laws/specs/Whole.antt]: **What holds of the world that a run leaves**, as one
+//   record: 16.4, 16.17, 16.19, 16.28, 16.33, 16.38, 16.39, 16.41, 16.42, 16.48 to 16.52, 16.54,
+//   16.55, 16.58, 16.59, what 16.60 says of a settled tree, what the closing line says of a tree as
+//   in 16.48, and 23.6 to 23.8
+/// In every run, what is promised of the world that it leaves, as one record: the promises above, and of the nodes of each tree what
+/// they are told, log, force and report.
 pub fn all_that_is_promised_is_kept()
     ensures { (es : List Happening) → AllPromised (run es) }
 {}
 
-/// A deployment keeps all that is promised of runs. Processes on machines, each site run by one process after the other on its own log,
+/// A deployment keeps what is promised of runs. Processes on machines, each site run by one process after the other on its own log,
 /// stopped at any moment, with a carrier that brings a node only what was said to it: they are a run of one world, whose nodes have the
-/// histories that the processes gave them, and of that world holds all that the laws say. As the deployment goes on, what was so of a
-/// node in a tree stays so.
+/// histories that the processes gave them, and of that world holds what is promised of every run. As the deployment goes on, what a
+/// node was told or decided in a tree, that it logged Commit, rolled, left or was complete with no report, stays so.
 pub fn a_deployment_keeps_the_promises()
-    // Promise 22.4 [tp_laws/specs/Deployed.antt]: **So it keeps all that is promised of runs**
-    //   (16.57), the three sentences among it
+    // Promise 22.4 [tp_laws/specs/Deployed.antt]: **So it keeps what is promised of runs**: 16.57
+    //   holds of that run, the three sentences among it
     ensures kept { DeploymentsKeep }
-    // Promise 22.5 [tp_laws/specs/Deployed.antt]: And what was so of a node in a tree stays so,
-    //   whatever happens after it (16.33, 16.34)
+    // Promise 22.5 [tp_laws/specs/Deployed.antt]: And what a node was told or decided in a tree,
+    //   that it logged Commit, rolled, left or was complete with no report, stays so, whatever
+    //   happens after it (16.34)
     ensures stays { DeploymentsStay }
 {}
 

@@ -56,9 +56,11 @@ pub fn a_tree_has_one_closing_line()
     ensures closed { (es : List Happening) → ClosesOnce (run es) }
 {}
 
-// Promise 16.55 [tp_outcomes/specs/Agreement.antt]: All that the nodes of a tree are promised
-//   together
-/// In every run, all that the nodes of a tree are promised together, whatever was decided, given up or lost: Commit stands alone,
+// Promise 16.55 [tp_outcomes/specs/Agreement.antt]: What the nodes of a tree are promised together:
+//   16.14 to 16.16, 16.27, 16.30 and 16.31; that the world lists the tree once, with its root
+//   (16.17); and that every staying node committed where the root's commitment was complete with no
+//   report (16.38)
+/// In every run, what the nodes of a tree are promised together, whatever was decided, given up or lost: Commit stands alone,
 /// at nodes and in logs; one outcome is shown; a completion with no report at the root means that every node that stays logged
 /// Commit and was complete with none; and a tree is entered once, hangs together, and is listed once.
 pub fn the_nodes_of_a_tree_agree()

@@ -26,7 +26,7 @@ LogsTell by ds =
     (s : List ℕ) (p : Process) (ps : List Process) → by s ≡ p ∷ ps → AreWhole (p ∷ ps)
     → (rs : List LogRec) × IsLog p.left rs × ((n : ℕ) → records_at n rs ≡ reverse (records (first_origin s n) (history_at ds (record { site = s; node = n }))))
 
--- **Processes are a run**, and keep all that is promised of runs
+-- **Processes are a run**, and keep what is promised of runs
 abbrev pub ProcessesKeep : Type 0
 ProcessesKeep =
     (by : List ℕ → List Process) (qs : List Place) (ds : List Deed) → AreDeedsOf by ds → AreArranged qs → IsDeployment qs ds

@@ -10,7 +10,8 @@ ghost use Rattle.tp_processes.specs.Octets.{SaidIsReadBack, OctetsCarryRecords};
 // Promise 22.24 [tp_processes/specs/Versions.antt]: **A log of version 1 is as one of version 2**:
 //   what a site does on it, it does on one of version 2 with the same records, given the same
 //   events without those that it refused for want of room (a node of it has 32 subordinates at
-//   most, where one of version 2 has 256); the outputs, the histories and the records are the same
+//   most, where one of version 2 has 256); the outputs for these events, the histories and the
+//   records are the same
 /// A site on a log of version 1 does what it does on a log of version 2 with the same records, given the same events without those that the
 /// first refused for want of room, as a node there has no more than 32 subordinates: the outputs for these events, the histories of the nodes
 /// and the records of the log are the same.
@@ -26,10 +27,10 @@ pub fn a_log_of_version_1_is_as_one_of_version_2()
 pub fn processes_leave_the_log()
     // Promise 22.8 [tp_processes/specs/Processes.antt]: Where each process of a site finds the file
     //   that the one before it left, or a compaction of it, each time a log of either version, the
-    //   file that the last one leaves is a log on which the next start knows what it would know on
-    //   the log of all that happened; none of its records is foreign, and each that is of a node
-    //   stands in that log. On a log of version 1, what a process refused for want of room has not
-    //   happened (22.24)
+    //   file that the last one leaves is a log on whose records, in version 2, the next start knows
+    //   what it would know on the log of all that happened; none of its records is foreign, and
+    //   each that is of a node stands in that log. On a log of version 1, what a process refused
+    //   for want of room has not happened (22.24)
     ensures leaves { ProcessesLeaveTheLog }
     // Promise 22.9 [tp_processes/specs/Processes.antt]: Where nothing was compacted, it is that log
     ensures whole { ProcessesLeaveItWhole }
@@ -44,11 +45,12 @@ pub fn processes_act_as_one()
 {}
 
 // Promise 22.11 [tp_processes/specs/Deployed.antt]: **Where the deeds of a deployment are what
-//   happened in such processes, they are a run of one world**, which keeps all that is promised;
-//   and a log that was never compacted has of each number what its node forced, in that order
+//   happened in such processes, they are a run of one world**, of which 16.57 holds; and the log
+//   that the last process of a site left has of each number what its node forced, in that order,
+//   where it was never compacted
 /// Where the deeds of a deployment are what happened in such processes, the deployment is a run of one world; the log that the newest
 /// process of each site left has of each number what its node forced, in that order, where it was never compacted; and of the world of that
-/// run holds all that is promised.
+/// run holds what is promised of every run.
 pub fn processes_keep_the_promises()
     ensures { ProcessesKeep }
 {}

@@ -7,18 +7,19 @@ ghost use Rattle.tp_programs.specs.Batches.{BatchIsAProcess};
 
 // Promise 22.13 [tp_programs/specs/Runs.antt]: **A run of `node` is such a process**, on every disk
 //   that tells its story and holds a log, whenever and however it stopped: what a crash leaves then
-//   is the log of events that it was given, all that was written was written of them, and where the
-//   log was not opened nothing was read or written
+//   is the log of a list of events, all that was written was written of the first of these, and
+//   where the log was not opened nothing was read or written
 /// What `serve` says of a run makes it a process of its site, on every disk that tells its story and holds a log: whatever a crash leaves
-/// where the run has ended, however that was, is the log of the events that it was given, or what was found, where its boot does not stand;
-/// and all that was written was written of these events. Where the log was not opened nothing was read or written.
+/// where the run has ended, however that was, is the log of a list of events, or what was found, where its boot does not stand; and all that
+/// was written was written of the first of these events. Where the log was not opened nothing was read or written.
 pub fn a_run_of_node_is_a_process()
     ensures { NodeIsAProcess }
 {}
 
 // Promise 22.14 [tp_programs/specs/Runs.antt]: **So is a run of `tx`**: what a crash leaves is the
-//   log of events that it was given, all that was written was written of them, and where the log
-//   was not opened, or the root's node was not declared, nothing was read or written
+//   log of a list of events; where the root's node was declared, these begin with the declaration
+//   and the events that its frames asked for, and all that was written answers these frames; where
+//   it was not, or the log was not opened, nothing was read or written
 /// So does what `transact` says.
 pub fn a_run_of_tx_is_a_process()
     ensures { FaceIsAProcess }

@@ -44,11 +44,11 @@ pub fn a_done_with_no_report_speaks_for_its_branch()
     ensures nodes { (es : List Happening) → DoneBelow (run es) }
 {}
 
-// Promise 16.40: A node that took the Begin of a branch is still in its tree, or rolled, left,
-//   ended its commitment with no report, keeps it for its damage, or took its superior's Forget of
-//   the branch
-/// In every run, a node that took the Begin of a branch is still in its tree, or rolled, left, ended its commitment with no
-/// report, keeps it for its damage, or took its superior's Forget of the branch.
+// Promise 16.40: At a node that took the Begin of a branch the tree is current still, or the node
+//   rolled, left, ended its commitment with no report, keeps it for its damage, or took its
+//   superior's Forget of the branch
+/// In every run, at a node that took the Begin of a branch the tree is current still, or the node rolled, left, ended its
+/// commitment with no report, keeps it for its damage, or took its superior's Forget of the branch.
 pub fn a_branch_keeps_its_tree_until_it_ends()
     ensures { (es : List Happening) → BranchFate (run es) }
 {}

@@ -78,12 +78,12 @@ pub fn leaving_is_not_rolling()
     ensures { (es : List Happening) (t : Aaid) (x : Node) → IsOf (run es) t x → has_left x.origin t x.history ≡ true → rolled x.origin t x.history ≡ false }
 {}
 
-// Promise 16.18: What a superior takes from a node below it was said of a Begin that it had sent by
-//   then
-/// In every run, what a superior takes from a node below it was said of a Begin that it had sent by then: Ready is logged for
-/// it, Done ends a tree that committed there, with no report one that was complete with none, and with a report one whose
-/// damage is logged there, RolledBack one that rolled, Left one that was left, and Rollback is of one that rolled; and
-/// between two ends at most one Ready is taken, and no Left after it.
+// Promise 16.18: What a superior takes over an association from a node below it and counts for the
+//   outcome (Ready, Done, Rollback, RolledBack, Left) was said of a Begin that it had sent by then
+/// In every run, what a superior takes over an association from a node below it and counts for the outcome was said of a Begin
+/// that it had sent by then: Ready is logged for it, Done ends a tree that committed there, with no report one that was complete
+/// with none, and with a report one whose damage is logged there, RolledBack one that rolled, Left one that was left, and
+/// Rollback is of one that rolled; and between two ends at most one Ready is taken, and no Left after it.
 pub fn branches_are_heeded()
     ensures { (es : List Happening) → HeedsBranches (run es).nodes }
 {}

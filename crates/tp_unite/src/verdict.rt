@@ -66,17 +66,19 @@ fn judge(alloc: Global, recording: Recording) -> Result<Verdict, NoMemory>
 
 /// Reads the frames of a recording, and tells whether its processes are a deployment.
 pub fn unite<S: Source>(alloc: Global, source: &mut S) -> Result<Verdict, Stop>
-    // Promise 22.20 [tp_unite/specs/Verdicts.antt]: Where the verdict over a recording is that it is
-    //   a deployment, the bytes are whole frames, the places are arranged as is asked above, no site
-    //   has two records, and there is an order of all deeds, in which those of each site stand as
-    //   they were recorded, that is a deployment; so all above holds of it
+    // Promise 22.20 [tp_unite/specs/Verdicts.antt]: Where the verdict over a recording is that it
+    //   is a deployment, the bytes are whole frames, the places are arranged as is asked above, no
+    //   site has two records, and there is an order of all deeds, in which those of each site stand
+    //   as they were recorded, that is a deployment; so what is said above of deployments holds of
+    //   it
     // Promise 22.25 [tp_unite/specs/Verdicts.antt]: **Where it is that an event is not placed, or a
     //   record not carried, no order of all deeds, in which those of each site stand as they were
     //   recorded, is a deployment.** Not placed: the event in the frame that is named happens at a
-    //   node that has no place, or declares it under another superior than its place has, or names a
-    //   node that has no place; and whatever other frames come after that one, there is no such order.
-    //   Not carried: the frame that is named tells the first deed of its site that no order of some of
-    //   the deeds reaches that is a deployment, and one reaches all before it
+    //   node that has no place, or declares it under another superior than its place has, or names
+    //   a node that has no place; and whatever other frames come after that one, there is no such
+    //   order. Not carried: the frame that is named tells the first deed of its site that no order
+    //   of some of the deeds reaches that is a deployment, and one reaches all deeds of that site
+    //   before it
     ensures judges { IfOk result (λ verdict. (bytes : List ℕ) → S.left source.old ≡ Some bytes → Judges bytes verdict) }
     // Promise 22.26 [tp_unite/specs/Verdicts.antt, tp_unite/specs/Endings.antt]: Without a verdict,
     //   the answer names the first frame that is none of a recording, with the reason; or the first

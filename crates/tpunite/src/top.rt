@@ -99,9 +99,9 @@ fn judge<S: Source, K: Sink>(alloc: Global, source: &mut S, sink: &mut K) -> Sta
     }
 }
 
-// Promise 22.22 [clauses runs unread, tpunite/specs/Runs.antt]: `tpunite` writes just the line of
-//   that verdict, or a prefix of it where its sink fails, and otherwise nothing; after any word
-//   nothing is read
+// Promise 22.22 [clauses usage runs unread, tpunite/specs/Runs.antt]: `tpunite` writes just the
+//   line of that verdict, or a prefix of it where its sink fails, and otherwise nothing; after any
+//   word nothing is read
 /// Reads a recording to the end of the source, and writes the verdict over it to the sink, as one line. Nothing is written before the
 /// whole input was read; where the sink fails, a prefix of the line is written. Any word is usage, and nothing is read.
 pub fn run<S: Source, K: Sink>(
