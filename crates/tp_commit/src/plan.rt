@@ -157,8 +157,9 @@ impl Branch {
     }
 
     // Promise 10.9, part 2
-    // Promise 10.10: Applying a plan and adding a branch take no memory while there are at most 256
-    //   branches; `Branch::turn`, which the programs call, may take memory
+    // Promise 10.10: Applying an event and adding a branch need no memory while there are, with
+    //   those that begin, at most 256 branches; `Branch::turn`, which the programs call, may need
+    //   memory
     /// Takes an event that is not refused: the transaction stands as the event leaves it, before the next
     /// one starts. It takes no memory but where there are more than 256 branches with those that the event begins; without memory
     /// nothing changes.

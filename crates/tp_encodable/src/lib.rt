@@ -34,10 +34,9 @@ pub fn outputs_carry_what_fits()
         → (answer (origin_at o n) h e).entry ≡ Some y → AreShort y.outs }
 {}
 
-// Promise 12.40: A user is told that a transaction of its superior begins by the Begin that is
-//   taken, and by no other event
-/// Whatever is known of a node, its user is told that a transaction of its superior begins by the Begin that is taken, and by no
-/// other event.
+// Promise 12.40: A user is told that a transaction of its superior begins only by a Begin that is
+//   taken
+/// Whatever is known of a node, its user is told that a transaction of its superior begins only by a Begin that is taken.
 pub fn only_a_begin_is_told_as_one()
     ensures { (who : Who) (d : Digest) (e : Event) → refusal who d e ≡ None → out_tells is_begin_told (action who d e).outs ≡ true → takes_begin e ≡ true }
 {}
