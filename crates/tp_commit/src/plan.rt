@@ -44,8 +44,8 @@ impl Branch {
         Ok(())
     }
 
-    // Promise 10.9: An event of a transaction asks for, refuses and leaves what the rules say, with
-    //   one record at most
+    // Promise 10.9: What an event of a transaction asks for, by what it is refused and what it
+    //   leaves are what the rules say, with one record at most
     /// What an event asks for: at most one record of the log, and outputs in order; or the number by
     /// which it is refused. It changes nothing. What the dialogue of an arc refuses, and what a record
     /// from the wrong side comes to, is not looked at here.

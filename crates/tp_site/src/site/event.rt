@@ -125,10 +125,11 @@ impl<K: Keeper> Site<K> {
         }
     }
 
-    /// An event as it comes to the site. Its record is forced before any output is given; a refusal changes nothing. Octets
-    /// that are not exactly one record are refused by 25, and a record for another site by 23. Where a record came out of
-    /// phase and ends its association, the outputs begin with that refusal and go on with the loss. After a fault of the
-    /// disk every event is answered `Shut`. Where the keeper's records follow each other, they do so after it. A user's request that is refused takes no memory, but where numbers are spent.
+    /// An event as it comes to the site. The keeper has taken its record before any output is given; a refusal changes nothing.
+    /// Octets that are not exactly one record are refused by 25, and a record for another site by 23. Where a record came out
+    /// of phase and ends its association, the outputs begin with that refusal and go on with the loss. After a fault of the
+    /// disk every event is answered `Shut`. Where the site stands as its events leave it and the keeper's records follow each
+    /// other, they do so after it. A user's request is refused also without memory, but where numbers are spent.
     pub fn event(&mut self, alloc: Global, event: &Event) -> Result<Outputs, SiteFault>
         // Promise 11.4: At a site that is not shut, an event that comes as octets is refused by 25
         //   exactly where they are not the whole text of one record, else by 23 where it is for
