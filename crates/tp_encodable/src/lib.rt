@@ -26,7 +26,8 @@ pub fn records_keep_their_shape()
     ensures texts { (o : Opening) (es : List Given) → HaveTexts o.version o.records → AreShaped o.version (log_after o es) }
 {}
 
-// Promise 12.39: No output carries more of a user's octets than fit in a record
+// Promise 12.39: No output of an event that a site is given, as octets where it is a record,
+//   carries more of a user's octets than fit in a record
 /// Whatever a site is given, and whatever came before, no output of its node carries more of a user's octets than fit in a record: a
 /// request with more is refused, and octets with more are no text of a record.
 pub fn outputs_carry_what_fits()

@@ -177,6 +177,7 @@ impl Invocation {
         self.below.as_slice()
     }
 
+    // Promise 10.5, part 7
     /// The arcs to subordinates, to be changed; what is written there takes their place.
     pub fn subordinates_mut(&mut self) -> &mut [Tie]
         ensures* written { sem 𝓛 (LendsBelow self.entry result) }
@@ -185,6 +186,7 @@ impl Invocation {
         self.below.as_mut_slice()
     }
 
+    // Promise 10.5, part 8
     /// The arc to the superior, where there is one, to be changed.
     pub fn above_mut(&mut self) -> Option<&mut Tie>
         ensures* written { sem 𝓛 (LendsAbove self.entry result) }
