@@ -85,8 +85,8 @@ fn found(
 }
 
 impl Branch {
-    // Promise 10.11: A transaction begins, and is found again in the log, as what is known of the
-    //   node says
+    // Promise 10.11: A transaction begins, where its superior's arc is live and no end is deferred
+    //   on it, and is found again in the log, as what is known of the node says
     /// A transaction of that node begins: active, without a branch. The superior is given where the key
     /// has a branch; a root's transaction has none, whatever is given. Takes the room for its branches.
     pub fn begin(
@@ -116,6 +116,7 @@ impl Branch {
         })
     }
 
+    // Promise 10.11, part 5
     /// A transaction of that node begins in the room of this one, which is gone: active, without a branch. The superior is given
     /// as above.
     pub fn begin_anew(&mut self, node: u16, key: &NodeKey, superior: &Option<Addr>)

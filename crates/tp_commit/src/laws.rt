@@ -66,15 +66,16 @@ pub fn an_event_changes_its_own_arc()
     ensures cleared { (arcs : List Arc) (p : ℕ) → AreAlike arcs (with_dialogue arcs p cleared) }
 {}
 
-// Promise 10.12 [tp_model/specs/AmongArcs.antt]: A transaction stands for what is known of its node
-//   after each event too, where it stood in order among the node's arcs before and the event came
-//   at arcs that it reaches
+// Promise 10.12 [tp_model/specs/AmongArcs.antt]: Where a transaction stood in order among its
+//   node's arcs, and an event that it takes up came at arcs that it reaches, it stands after the
+//   event for what is known of the node, until the next transaction starts; so it does after a
+//   branch that begins where Begin may be sent
 /// A `Branch` stands after every event for what is known of the node by then, and before the node's next
 /// transaction starts. Where it stood for what was known before the event, it asks for what the event of the
 /// node asks for; where the transaction goes on, it stands for that transaction among the arcs after the
 /// event, whatever was shut, closed, cleared or taken back there, and the two are in order as before; where it
 /// is over, its phase is Nil. So it does after each branch that begins. That the two are in order in every legal
-/// history, and that an event reaches the arcs at which it comes, are laws of `tp_laws::arcs`.
+/// history, and that an event reaches the arcs at which it comes, are laws of `tp_histories::arcs`.
 pub fn a_branch_stands_behind_every_event()
     ensures asks { (who : Who) (f : TxEvent) (d : Digest) (c : Current) (arcs : List Arc) → IsAmongArcs arcs c → Reaches f c arcs d.arcs
         → step_of (transacted f (seen who arcs c)) ≡ step_of (transacted f (seen who d.arcs c)) }

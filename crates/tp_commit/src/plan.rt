@@ -44,8 +44,8 @@ impl Branch {
         Ok(())
     }
 
-    // Promise 10.9: An event of a transaction asks for, refuses and leaves what the rules say, with
-    //   one record at most
+    // Promise 10.9: What an event of a transaction asks for, by what it is refused and what it
+    //   leaves are what the rules say, with one record at most
     /// What an event asks for: at most one record of the log, and outputs in order; or the number by
     /// which it is refused. It changes nothing. What the dialogue of an arc refuses, and what a record
     /// from the wrong side comes to, is not looked at here.
@@ -157,8 +157,9 @@ impl Branch {
     }
 
     // Promise 10.9, part 2
-    // Promise 10.10: Applying a plan and adding a branch take no memory while there are at most 256
-    //   branches; `Branch::turn`, which the programs call, may take memory
+    // Promise 10.10: Applying an event and adding a branch need no memory while there are, with
+    //   those that begin, at most 256 branches; `Branch::turn`, which the programs call, may need
+    //   memory
     /// Takes an event that is not refused: the transaction stands as the event leaves it, before the next
     /// one starts. It takes no memory but where there are more than 256 branches with those that the event begins; without memory
     /// nothing changes.

@@ -74,6 +74,7 @@ impl Branch {
             && row.is_some_and(|row| !row.ended && !row.left && !row.given_up)
     }
 
+    // Promise 10.9, part 4
     /// Why the transaction refuses an event. It takes no memory.
     #[tactic(auto, unfolding(tp_model::specs::Transactions::refused_tx))]
     pub fn refused(&self, event: &TxEvent) -> Option<Refusal>

@@ -197,7 +197,7 @@ impl Dialogue {
         is_past_work(s) || self.rests
     }
 
-    // Promise 10.3: A dialogue refuses exactly by its table
+    // Promise 10.3: A dialogue refuses a request that names a live arc exactly by its table
     /// Why this end refuses a request in a situation: the refusal with the least number of its row that applies. The
     /// length is that of the octets that are asked to be sent. It takes no memory.
     #[tactic(auto, unfolding(tp_model::specs::Dialogues::refused_on_arc))]
@@ -434,8 +434,8 @@ impl Dialogue {
         }
     }
 
-    // Promise 10.4: A record on a dialogue acts, does nothing, or is out of phase exactly by the
-    //   table
+    // Promise 10.4: A record of work, a deferral or an end of the dialogue acts, does nothing, or
+    //   is out of phase exactly by the table
     /// What comes of a record in a situation. A response on a resting arc does nothing.
     pub fn disposition(&self, s: &Situation, heard: Heard) -> Disposition
         ensures { sight_value result ≡ sight_at self.now s.now (heard_value heard) }

@@ -26,7 +26,8 @@ pub fn records_keep_their_shape()
     ensures texts { (o : Opening) (es : List Given) → HaveTexts o.version o.records → AreShaped o.version (log_after o es) }
 {}
 
-// Promise 12.39: No output carries more of a user's octets than fit in a record
+// Promise 12.39: No output of an event that a site is given, as octets where it is a record,
+//   carries more of a user's octets than fit in a record
 /// Whatever a site is given, and whatever came before, no output of its node carries more of a user's octets than fit in a record: a
 /// request with more is refused, and octets with more are no text of a record.
 pub fn outputs_carry_what_fits()
@@ -34,10 +35,9 @@ pub fn outputs_carry_what_fits()
         → (answer (origin_at o n) h e).entry ≡ Some y → AreShort y.outs }
 {}
 
-// Promise 12.40: A user is told that a transaction of its superior begins by the Begin that is
-//   taken, and by no other event
-/// Whatever is known of a node, its user is told that a transaction of its superior begins by the Begin that is taken, and by no
-/// other event.
+// Promise 12.40: A user is told that a transaction of its superior begins only by a Begin that is
+//   taken
+/// Whatever is known of a node, its user is told that a transaction of its superior begins only by a Begin that is taken.
 pub fn only_a_begin_is_told_as_one()
     ensures { (who : Who) (d : Digest) (e : Event) → refusal who d e ≡ None → out_tells is_begin_told (action who d e).outs ≡ true → takes_begin e ≡ true }
 {}

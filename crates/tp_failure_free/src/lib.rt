@@ -26,7 +26,7 @@ pub fn an_open_branch_has_a_live_arc()
     ensures superior { (t : Aaid) (o : Origin) (up : Option Addr) (h : List Entry) → IsUnfailed t o up h → SuperiorLive t o h }
 {}
 
-// Promise 12.31: What is noted of a branch stays while the tree is current
+// Promise 12.31: That a branch has answered or left, or has ended, stays while the tree is current
 /// Of a tree in which nothing failed a branch that is counted or has left stays so, and so does one that has ended or left, while
 /// the tree is current.
 pub fn what_is_noted_of_a_branch_stays()
@@ -34,7 +34,10 @@ pub fn what_is_noted_of_a_branch_stays()
     ensures ended { (t : Aaid) (o : Origin) (up : Option Addr) (h : List Entry) (e : Entry) → IsUnfailed t o up (e ∷ h) → StaysEnded t o h e }
 {}
 
-// Promise 12.32: What is taken of the tree, if it did not roll, is heeded
+// Promise 12.32: What is taken of the tree is heeded: if it did not roll, a branch whose Ready or
+//   Left was taken has answered while it is current, and where the superior's Commit was taken
+//   Commit is logged; a branch whose Done was taken in committing has ended, or left, while it is
+//   current
 /// What is taken of a tree in which nothing failed, and that did not roll, is heeded: a branch whose answer was taken has answered
 /// as long as the tree is current; where the superior's Commit was taken, Commit is logged; and a branch whose Done was taken in
 /// committing has ended as long as the tree is current.
@@ -44,7 +47,9 @@ pub fn what_a_node_takes_it_heeds()
     ensures ends { (t : Aaid) (o : Origin) (up : Option Addr) (h : List Entry) → IsUnfailed t o up h → HeedsDone t o h }
 {}
 
-// Promise 12.33: What is decided of the tree goes out on the live arcs
+// Promise 12.33: What is decided of the tree goes out on the live arcs: Ready, Commit to each
+//   branch that has not left, Done where its commitment is complete with no report, and that it
+//   leaves
 /// What is decided of a tree in which nothing failed goes out on the live arcs: an entry of the tree that logs Ready says so to the
 /// superior; one that logs Commit orders it to each branch that has not left; one that tells the user that the commitment is
 /// complete with no report says Done with no report; and one that leaves says so.
@@ -55,8 +60,8 @@ pub fn what_a_node_decides_it_says()
     ensures leaving { (t : Aaid) (o : Origin) (up : Option Addr) (h : List Entry) (e : Entry) → IsUnfailed t o up (e ∷ h) → SaysLeaving t o h e }
 {}
 
-// Promise 12.34: Its commitment is complete with no report, where no Done that came while it was
-//   current had one
+// Promise 12.34: Its commitment, once complete, is so with no report, where no Done that came on an
+//   association and no reply done of the tree, while it was current, had one
 /// A commitment in a tree in which nothing failed, once it is complete, is so with no report, where no Done that came while the
 /// tree was current had one.
 pub fn branches_without_a_report_leave_none()

@@ -37,8 +37,9 @@ pub fn a_transaction_stands_among_its_arcs()
 /// at arcs that it reaches from those before the event of the node, and it is taken up; so it is in every run. Where none is
 /// put, what is current stays as it is, but for branches that begin, and for what a stop leaves.
 pub fn an_event_reaches_the_transaction()
-    // Promise 12.16 [clauses reaches alone]: In such a history an event of the node puts one event
-    //   to the current transaction at most, at arcs that it reaches, and it is taken up
+    // Promise 12.16 [clauses reaches alone]: In such a history an event of the node that is not
+    //   refused puts one event to the current transaction at most, before the next one starts, at
+    //   arcs that it reaches, and it is taken up
     ensures reaches { (o : Origin) (up : Option Addr) (h : List Entry) (e : Event) (c : Current) (x : Put) → IsLegal o up h
         → finds_apart o ≡ true → refuse o h e ≡ None → (digest o h).current ≡ Some c → put_by o.who (digest o h) e ≡ Some x
         → IsPutTo o.who (digest o h) e c x }

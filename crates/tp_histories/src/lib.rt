@@ -34,9 +34,10 @@ ghost use Rattle.tp_steps.specs.Undone.{IsPromptTurn};
 ghost use Rattle.tp_histories.specs.Undone.{is_left_undone};
 ghost use Rattle.tp_histories.specs.Traces.{IsTraced, sent_on, accepted_on};
 
-// Promise 12.8: A live link counts what was sent and taken, and an undrawn mark is in no record
-/// In every legal history a live link counts what was sent and taken with its pair of marks, and a mark that is not yet
-/// drawn is in no record.
+// Promise 12.8: A live link counts what was sent and taken with its pair, and with a mark of the
+//   node's own that is not yet drawn nothing was sent or taken on an association
+/// In every legal history a live link counts what was sent and taken with its pair of marks, and with a mark of the node's own
+/// that is not yet drawn nothing was sent or taken on an association.
 pub fn traces()
     ensures counts { (o : Origin) (up : Option Addr) (h : List Entry) (p : ℕ) (x y : Mark) (s t : ℕ) → IsGrown o up h
         → link_with (digest o h).arcs p ≡ Live x y s t
@@ -44,7 +45,9 @@ pub fn traces()
     ensures marks { (o : Origin) (up : Option Addr) (h : List Entry) → IsGrown o up h → IsTraced o.who up (digest o h) h }
 {}
 
-// Promise 12.24: Records on an association belong to the transaction of the last Begin
+// Promise 12.24: Of the records on an association: a Ready is logged for the Begin that it answers,
+//   a Commit for the tree of the last Begin that was sent before it, that tree has rolled where a
+//   Rollback follows the Begin, and on a live one a branch has the key of the last Begin
 /// In every legal history of a node whose log was empty at first, the records on each pair of marks are paired with the
 /// transactions that they belong to: as many Begins were taken as have ended, but for the current one, which stands at its
 /// place; a branch's key is that of the last Begin; Ready was logged for the Begin that it answers, Commit for the tree of
@@ -80,8 +83,8 @@ pub fn words_upward()
 /// asked to commit is active only while a branch is neither counted nor left, and one whose user has given done is
 /// committing only while a branch is neither done, left nor given up.
 pub fn nothing_is_left_undone()
-    // Promise 12.3: No event leaves a vote, an order, a completed commitment or a completed
-    //   rollback undone that was not left undone before
+    // Promise 12.3: No event of a transaction leaves a vote, an order, a completed commitment or a
+    //   completed rollback undone that was not left undone before
     ensures turn { (e : TxEvent) (s : Transaction) → IsPut e s → IsPromptTurn s (transacted e s) }
     // Promise 12.10: A transaction whose user asked for commitment is active only while a branch is
     //   neither counted nor left, and one whose user has given done is committing only while a
@@ -105,11 +108,12 @@ pub fn answers_are_asked_for()
         → answered (sent_on x y p h) ≤ closed (accepted_on x y p h) }
 {}
 
-// Promise 12.9: No two arcs lead to one node; the mark that stands for the node in a pair was drawn
-//   by it, and one that it drew for a subordinate is used with no other
-/// In every legal history no two arcs lead to one node and none is idle; the mark that stands for the node in a pair is one
-/// that it drew, as in each pair on which it sent; and a mark that it drew for one subordinate is offered to no other, nor
-/// was anything sent to another with it.
+// Promise 12.9: No two arcs lead to one node; the mark that stands for the node in a pair has the
+//   node's number; and the mark of an association that it opened with a subordinate is on no other
+//   arc to one, nor was anything sent to another with it
+/// In every legal history no two arcs lead to one node and none is idle; the mark that stands for the node in a pair has its
+/// number, as in each pair on which it sent; and the mark of an association that it opened with one subordinate is on the arc
+/// to no other, nor was anything sent to another with it.
 pub fn ends_are_told_apart()
     ensures arcs { (o : Origin) (up : Option Addr) (h : List Entry) → IsGrown o up h → are_separate (digest o h).arcs ≡ true }
     ensures marks { (o : Origin) (up : Option Addr) (h : List Entry) → IsGrown o up h → IsAlone o.who up (digest o h) h }

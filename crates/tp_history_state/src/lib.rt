@@ -24,8 +24,9 @@ pub fn parts_are_the_whole()
     ensures { (o : Origin) (h : List Entry) → agrees_in_parts o h ≡ true → agrees o h ≡ true }
 {}
 
-// Promise 12.17: That the node is declared, its superior, its boot number, the marks that it drew,
-//   whether it is known from its log, and the transactions that it keeps
+// Promise 12.17: That the node is declared, its superior, its boot number, how many marks it has
+//   drawn since its last start, whether it is known from its log, and the transactions that it
+//   keeps
 /// In every legal history: the node is declared if it was since the last crash, under the superior that it was declared
 /// with; its boot number is that of its start and one more for each crash; it has drawn as many marks in this boot as the
 /// greatest count among those that it sent; it is known from its log if a key stood there at its last start; and it keeps
@@ -42,8 +43,9 @@ pub fn a_node_is_known()
     ensures version { (o : Origin) (up : Option Addr) (h : List Entry) → IsLegal o up h → (digest o h).version ≡ o.start.version }
 {}
 
-// Promise 12.18: The phase of the current transaction, which no other key is in, its superior, its
-//   branches in order, its decision, and whether commitment was asked for and Prepare was told
+// Promise 12.18: The phase of the current transaction, and that every other key is in none, its
+//   superior, its branches in order, its decision, and whether commitment was asked for and Prepare
+//   was told
 /// In every legal history the phase of the current transaction is that of its key: active since it was begun, rolling since
 /// the event that rolled it, ready or committing by its last record; and every other key that was begun or logged is in no
 /// phase. So is any key but the current one, those that stand in the start's records alone among them.
@@ -82,8 +84,8 @@ pub fn arcs_are_known()
     ensures rest { (o : Origin) (up : Option Addr) (h : List Entry) → IsLegal o up h → rests_agrees o h ≡ true }
 {}
 
-// Promise 12.20: Of an arc that is live: who has control, whether it waits for a response or owes
-//   one, what is deferred on it, and whether it rests
+// Promise 12.20: Of an arc that is live: who has control, where it is polarized, whether it waits
+//   for a response or owes one, what is deferred on it, and whether it rests
 /// In every legal history who holds control of a live polarized arc is told by the last of its causes since the arc became
 /// live: a Begin, a Grant, a handshake with control that was answered, a leaving, a phase entered, or a completion.
 pub fn control_is_known()
@@ -108,8 +110,8 @@ pub fn handshakes_are_known()
     ensures due { (o : Origin) (up : Option Addr) (h : List Entry) → IsLegal o up h → due_agrees o h ≡ true }
 {}
 
-// Promise 12.21: Whether the user owes its done, whether the superior rolled, and the node's own
-//   report
+// Promise 12.21: Of the current transaction: whether the user owes its done, whether the superior
+//   rolled, and the node's own report
 /// In every legal history the user owes its done of the current transaction if it was told to commit or to roll back since
 /// the key was begun and has not given it since; at a start it owes it if the transaction is committing. The superior has
 /// rolled the transaction back if its Rollback acted since the key was begun and since the last crash, or its reply that it
@@ -148,8 +150,8 @@ pub fn arcs_are_named()
         → find_arc (digest o h).arcs p ≡ Some a → units_in p h ≡ a.dialogue.units }
 {}
 
-// Promise 12.22: Of each branch: whether it was told to prepare, was counted, has left, was given
-//   up, or has ended, and with which report
+// Promise 12.22: Of each branch of the current transaction: whether it was told to prepare, was
+//   counted, has left, was given up, or has ended, and with which report
 /// In every legal history a branch of the current transaction was told to prepare if an entry said Prepare to it since the key
 /// was begun and since the last crash; it was counted if its Ready acted since then; it left if its leaving acted since then
 /// while the key was active; it was given up if the node gave it up since then; and it ended if a record or a reply ended it

@@ -277,8 +277,8 @@ pub fn schedules_keep_the_laws()
     ensures mixed { (members : ℕ) (schedule : List ℕ) (answers : List (Option Request)) → MixedIsNamed (transcript_with members schedule answers).world }
 {}
 
-// Promise 12.7: A worker that has its own events alone writes and forces what it does in a run of
-//   all workers
+// Promise 12.7: The events of one worker alone give the outputs and the records that they give in a
+//   run of the events of all, in the same order
 /// Of the events that a site is given, dealt to any number of workers: a worker that has its events alone writes what it
 /// writes in a run of all, and forces the same records in the same order. So what a node answers depends on its own history
 /// alone.
@@ -341,8 +341,9 @@ pub fn rolling_is_seen()
     ensures { RolledIsSeen }
 {}
 
-// Promise 12.23: **All that is known of a node**, part by part: each is equal to what the questions
-//   answer, each arc has the address and the units that it was opened with, every key but the
+// Promise 12.23: **All that is known of a node**, part by part, as 12.17 to 12.22 ask it: each is
+//   equal to what the questions answer, each arc has the address at which its dialogue was last
+//   asked for or offered and the units that were last proposed or agreed on it, every key but the
 //   current one is in no phase, and the version of the log is that of the start
 /// In every legal history, all that is known of the node is what the questions to its whole history answer.
 pub fn the_whole_is_known()

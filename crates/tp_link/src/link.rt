@@ -169,7 +169,8 @@ impl Link {
         }
     }
 
-    // Promise 10.2: An association takes exactly the next record of its pair
+    // Promise 10.2: An association takes a record exactly where it is live, and the record has its
+    //   pair and the next number, which is not the greatest u64
     /// Takes a record with this pair and number: dropped by 21 exactly where the link is not live with
     /// this pair, else by 22 exactly where the number is not the count of records taken or is the
     /// greatest; unchanged when dropped.

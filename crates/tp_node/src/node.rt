@@ -686,8 +686,9 @@ impl Node {
         }
     }
 
-    // Promise 10.14: Each change of a node's arcs, transaction, marks and kept transactions is that
-    //   of the definitions
+    // Promise 10.14: How a node numbers its next record, what stays current of its transaction
+    //   after an event, the mark that it draws, what a record of the log makes of its kept
+    //   transactions, and a branch that it begins are those of the definitions
     /// Numbers the next record that goes out on the arc with that peer, where it is live. Where the association has no number
     /// left, nothing changes.
     #[inline(always)]

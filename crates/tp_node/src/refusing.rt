@@ -272,7 +272,7 @@ impl Node {
     }
 
     // Promise 10.13: By which number a node refuses an event before anything is tried, what comes
-    //   of a record, and what is shown of it are those of the definitions
+    //   of a record on an association, and what is shown of the node are those of the definitions
     /// Why an event is refused before anything is tried; or what comes of it, where it is a record that arrives on an
     /// association. It takes no memory.
     #[inline(always)]

@@ -171,6 +171,7 @@ fn done(
     Ok(Step { rec, outs })
 }
 
+// Promise 10.8, part 4
 /// Why an event of a kept transaction is refused: a purge, exactly where a branch is owed, or the side is commit and the
 /// transaction is not a root's; nothing else is refused. It takes no memory.
 pub fn refused(kept: &Kept, event: &KeptEvent) -> Option<Refusal>
@@ -185,6 +186,7 @@ pub fn refused(kept: &Kept, event: &KeptEvent) -> Option<Refusal>
     }
 }
 
+// Promise 10.8, part 5
 /// What an event of a kept transaction asks for: at most one record, and outputs. Nothing is refused here. That a Forget
 /// is noted where a branch is owed stands in no record.
 #[tactic(auto, unfolding(tp_model::specs::Recovery::settled))]

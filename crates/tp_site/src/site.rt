@@ -49,7 +49,7 @@ pub struct Played {
 }
 
 // Promise 11.7 [tp_site/specs/Shaped.antt, its invariant]: Neither a record that is forced nor one
-//   that goes out is tested for a text: each has one
+//   that goes out as octets is tested for a text: each has one (11.8; by 12.39 and 2.20)
 /// A site: its nodes, over a keeper of its log. An event is drawn up on the draft of the one before it, in its memory.
 #[derive(Drop)]
 pub struct Site<K: Keeper> {
@@ -241,14 +241,15 @@ impl<K: Keeper> Site<K> {
         Ok(prepared.refusal())
     }
 
-    // Promise 11.1: Whatever is known of a node, an event of it is refused, says, logs and leaves
-    //   what the definitions say, and no other node changes
-    // Promise 11.2: Its record is forced before anything of the event is so, and where it cannot
-    //   be, nothing is
-    // Promise 11.3: After a fault of the disk a site answers every event that it is shut, and shows
-    //   what it showed
-    /// An event of the node of that number. Its record is forced before anything of it is so; a refusal changes nothing.
-    /// After a fault of the disk every event is answered `Shut`.
+    // Promise 11.1: Whatever is known of a node, an event of it that no fault of the log stops is
+    //   refused, says, logs and leaves what the definitions say, and no other node changes
+    // Promise 11.2: The site's keeper has taken the record of an event, forced or noted, before the
+    //   event is answered by its outputs; where it has not, no node changes and a fault is
+    //   answered, though a disk that failed may have the record
+    // Promise 11.3: A site that has answered a fault of the disk answers every event that it is
+    //   shut, and shows what it showed
+    /// An event of the node of that number. The keeper has taken its record before it is answered by outputs; where it has not,
+    /// no node changes; a refusal changes nothing. After a fault of the disk every event is answered `Shut`.
     pub fn play(
         &mut self,
         alloc: Global,
@@ -322,8 +323,8 @@ impl<K: Keeper> Site<K> {
         }
     }
 
-    // Promise 11.10: A site starts on a log in order with each node as the definitions find it on
-    //   its records, after the next boot number, which is forced
+    // Promise 11.10: A site that starts does so on a log in order, with each node as the
+    //   definitions find it on its records, after the next boot number, which its keeper has taken
     // Promise 11.11: A log out of order is foreign at the first record that may not follow those
     //   before it
     /// Starts a site of that name on the records of a log, and forces its boot: the boot number after the last, or 1. It
@@ -331,9 +332,11 @@ impl<K: Keeper> Site<K> {
     #[tactic(auto, using(crate::proofs::Settled::unfound_starts, crate::proofs::Settled::opened_starts, crate::proofs::Settled::opened_at))]
     pub fn start(alloc: Global, keeper: K, name: SiteName) -> Result<Site<K>, (K, StartFault)>
         ensures starts { Starts K.standing keeper name result }
-        // Promise 11.5 [tp_site/specs/Events.antt]: From its start on, whatever events a site was
-        //   given, each node is what its history in the definitions' run of them makes of it, and
-        //   the records of its keeper are those that it started on, the boot, and those of the run
+        // Promise 11.5 [tp_site/specs/Events.antt]: From its start on, over a keeper that had
+        //   forced nothing before, whatever events a site was given by `Site::event`, each node is
+        //   what its history makes of it in the definitions' run of those that were answered by
+        //   outputs or a refusal, and the records of the keeper are those that it started on, the
+        //   boot, and those of the run
         ensures at { IfOk result (λ site. (K.standing keeper).told ≡ (K.standing keeper).kept
             → IsAt K.standing all_nodes (opening_of (K.standing keeper) name) [] site) }
         // Promise 11.8, part 2
@@ -350,8 +353,8 @@ impl<K: Keeper> Site<K> {
     }
 
     // Promise 11.3, part 3
-    // Promise 11.14: What is shown of a node is what the definitions show: nothing exactly of one
-    //   that is neither declared nor known from the log
+    // Promise 11.14: What is shown of a node is what the definitions show; `state` shows nothing
+    //   exactly of one that is neither declared nor known from the log
     /// What is shown of the node of that number: none where it is not declared since the start and not known from the
     /// log.
     #[tactic(auto, using(crate::proofs::Numbered::found, crate::proofs::Numbered::unfound_missing))]
@@ -395,6 +398,7 @@ impl<K: Keeper> Site<K> {
         }
     }
 
+    // Promise 11.15, part 2
     /// The tree of the current transaction of the node of that number, where it has one, is put there.
     #[inline(always)]
     #[tactic(auto, using(crate::proofs::Numbered::found, crate::proofs::Numbered::unfound_treeless))]
@@ -407,6 +411,7 @@ impl<K: Keeper> Site<K> {
         }
     }
 
+    // Promise 11.15, part 3 [clauses tree]
     /// The same, before events of that node, which is sought first where it stands from now on.
     #[inline(always)]
     pub fn note_tree(&mut self, node: u16, tree: &mut Option<NodeTree>)

@@ -18,9 +18,10 @@ ghost use Rattle.tp_model.specs.declared.recovery.KeptEvent.{KeptEvent};
 ghost use Rattle.tp_steps.specs.Heeding.{IsHeeding};
 ghost use Rattle.tp_steps.specs.Outspoken.{IsOutspoken, SaysLeft};
 
-// Promise 12.1: What an event says to a peer, counted: votes stand after their record, orders and
-//   rollbacks under the branch's key, and there are as many ends as transactions of the superior
-//   end
+// Promise 12.1: What an event that is not refused says to a peer, counted, where what was counted
+//   before fits what is current: a vote after its record, an order after the Begin of a tree whose
+//   Commit is logged, a rollback after that of a tree that rolls, if a Begin went there; and, over
+//   an association that stays live, as many ends as transactions of that superior end
 /// What every event says to a peer, counted: votes after their record, orders and rollbacks under the branch's key, as
 /// many ends as transactions of the superior end, and at most one Begin more than branches that closed.
 pub fn words_of_events()
@@ -41,9 +42,10 @@ pub fn marks_of_branches()
         → IsBranched who e (prelude who d e) (prelude who d e) (action who d e) }
 {}
 
-// Promise 12.4: What a transaction takes is heeded: a vote that is in phase finds it active and is
-//   noted, an order that is in phase is carried out in ready, and a Done in committing ends its
-//   branch, where the event does not roll it back; what is noted of a branch stays
+// Promise 12.4: What a transaction takes is heeded: where it does not roll, a vote or a leaving
+//   that is in phase finds it active and is noted; an order that is in phase is carried out in
+//   ready; in committing a branch that says or replies Done has ended after it, or had left. That a
+//   branch has answered or has ended stays
 /// What a transaction takes is heeded, by every event. Where it does not roll, a branch's Ready or Left that is not out of
 /// phase is taken in active, and the branch is counted or has left after it; the superior's order that is not out of phase
 /// is not taken in active, and in ready it is carried out; in committing a branch that says or replies that it is done has
@@ -63,7 +65,8 @@ pub fn what_is_decided_is_said()
     ensures leaves { (e : TxEvent) (s : Transaction) → SaysLeft e s (transacted e s) }
 {}
 
-// Promise 12.6: Every event of a transaction forces the record that tells what a crash leaves of it
+// Promise 12.6: An event of a transaction, which has no decision before it is ready, changes what a
+//   crash leaves of it as the record that it forces tells, and not at all where it forces none
 /// Every event of a transaction forces the record that tells what it makes of it: what of a ready or committing transaction
 /// stands in the log (its key, its phase, the branches that did not leave, its decision), with the record of the event, is
 /// what stands there after it; and of a node, what a crash would leave of

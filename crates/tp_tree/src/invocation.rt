@@ -108,7 +108,7 @@ impl Invocation {
     }
 
     // Promise 10.5: A node's arcs are found, added, changed and taken away as the definitions say,
-    //   in the order in which they were asked for, the superior's first
+    //   in the order in which they were added, the superior's first
     /// The arc with the peer of that number.
     #[tactic(auto, using(crate::proofs::Arcs::arc_found))]
     pub fn get(&self, peer: u16) -> Option<&Tie>
@@ -150,6 +150,7 @@ impl Invocation {
         self.below.get_mut(place)
     }
 
+    // Promise 10.5, part 6
     /// The arc with the peer of that number, to be changed, as `tie` lends it. It is looked for at that place among the
     /// subordinates' first, where no other than the first one with the peer stands.
     #[tactic(auto, using(crate::proofs::Ties::found_mut, crate::proofs::Arcs::arc_found, crate::proofs::Arcs::arcs_put, crate::proofs::Arcs::writes_dialogue, crate::proofs::Arcs::writes_link))]
@@ -176,6 +177,7 @@ impl Invocation {
         self.below.as_slice()
     }
 
+    // Promise 10.5, part 7
     /// The arcs to subordinates, to be changed; what is written there takes their place.
     pub fn subordinates_mut(&mut self) -> &mut [Tie]
         ensures* written { sem 𝓛 (LendsBelow self.entry result) }
@@ -184,6 +186,7 @@ impl Invocation {
         self.below.as_mut_slice()
     }
 
+    // Promise 10.5, part 8
     /// The arc to the superior, where there is one, to be changed.
     pub fn above_mut(&mut self) -> Option<&mut Tie>
         ensures* written { sem 𝓛 (LendsAbove self.entry result) }
@@ -261,7 +264,7 @@ impl Invocation {
         requires room { IsTrue (has_room side self.old) }
         ensures value { OnOk result (self.new ≡ with_added side (fresh_tie addr units side) self.old) }
         ensures arcs { OnOk result (arcs_of self.new ≡ with_arc side (fresh_arc addr units side) (arcs_of self.old)) }
-        // Promise 10.6: A further arc takes no memory where room for all was taken at the start
+        // Promise 10.6: A further arc needs no memory where the memory for all is reserved
         ensures memory { self.old.reserved ≡ true → result ≡ Ok tt }
         ensures same { OnErr result (self.new ≡ self.old) }
     {

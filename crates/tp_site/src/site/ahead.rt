@@ -13,9 +13,9 @@ use tp_names::NoMemory;
 use tp_outside::Disk;
 
 impl<D: Disk> Site<Journal<D>> {
-    // Promise 11.16: A site goes on over the same log, which notes records from then on; all that
-    //   was noted is forced at once, which leaves the site where it stood, and shuts it where the
-    //   disk fails
+    // Promise 11.16: A site goes on over the same log, which notes records from then on;
+    //   `settle_log` forces all that was noted at once, leaves the site where it stood, and shuts
+    //   it where the disk fails; of a log that was shut before it forces nothing
     /// The same site over the same log, which notes records from now on.
     pub fn ahead(self, alloc: Global) -> Result<Site<Gathering<D>>, (Site<Journal<D>>, NoMemory)>
         ensures ok { IfOk result (λ site. site

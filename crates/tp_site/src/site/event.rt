@@ -125,29 +125,34 @@ impl<K: Keeper> Site<K> {
         }
     }
 
-    /// An event as it comes to the site. Its record is forced before any output is given; a refusal changes nothing. Octets
-    /// that are not exactly one record are refused by 25, and a record for another site by 23. Where a record came out of
-    /// phase and ends its association, the outputs begin with that refusal and go on with the loss. After a fault of the
-    /// disk every event is answered `Shut`. Where the keeper's records follow each other, they do so after it. A user's request that is refused takes no memory, but where numbers are spent.
+    /// An event as it comes to the site. The keeper has taken its record before any output is given; a refusal changes nothing.
+    /// Octets that are not exactly one record are refused by 25, and a record for another site by 23. Where a record came out
+    /// of phase and ends its association, the outputs begin with that refusal and go on with the loss. After a fault of the
+    /// disk every event is answered `Shut`. Where the site stands as its events leave it and the keeper's records follow each
+    /// other, they do so after it. A user's request is refused also without memory, but where numbers are spent.
     pub fn event(&mut self, alloc: Global, event: &Event) -> Result<Outputs, SiteFault>
-        // Promise 11.4: An event that comes as octets is refused by 25 exactly where they are not
-        //   the whole text of one record, else by 23 where it is for another site, and else is the
-        //   event of the node
+        // Promise 11.4: At a site that is not shut, an event that comes as octets is refused by 25
+        //   exactly where they are not the whole text of one record, else by 23 where it is for
+        //   another site, and else is the event of the node
         ensures plays { PlaysAsked K.standing self.old (asked (opening_at self.old.nodes.site) event.now) result self.new }
         // Promise 11.5, part 2
         ensures steps { (mine : ℕ → Bool) (o : Opening) (gs : List Given) → IsAt K.standing mine o gs self.old
             → mine (node_of event.now) ≡ true → StepsTo K.standing mine o gs self.old event.now result self.new }
-        // Promise 11.6: Where the records of its keeper follow each other before an event, and only
-        //   branches have voted, so it is after it
+        // Promise 11.6: Of a site that stands where 11.5 says: where the records of its keeper
+        //   follow each other before an event, and only branches have voted, so it is after it
         ensures order { (mine : ℕ → Bool) (o : Opening) (gs : List Given) → IsAt K.standing mine o gs self.old
             → mine (node_of event.now) ≡ true → IsInOrder (K.standing self.old.keeper) → IsInOrder (K.standing self.new.keeper) }
-        // Promise 11.8: The record for which a keeper was asked has a text, whatever it answered
+        // Promise 11.8: Of a site that starts, or stands where 11.5 says: the record for which its
+        //   keeper was asked has a text where it was taken, and where the answer is that the log is
+        //   full or that the disk failed
         ensures text { (mine : ℕ → Bool) (o : Opening) (gs : List Given) → IsAt K.standing mine o gs self.old
             → mine (node_of event.now) ≡ true → HasTextIfAsked (K.standing self.old.keeper).wide (record_after o gs event.now) result }
         ensures lasting { (K.standing self.new.keeper).lasting ≡ (K.standing self.old.keeper).lasting }
-        // Promise 11.9: A user's request that is refused at once takes no memory
+        // Promise 11.9: A user's request that a site which is not shut refuses for another cause
+        //   than spent numbers is refused also where there is no memory
         ensures plain { (n : ℕ) (r : Asks) (x : Refusal) → event.now ≡ Given.Do n r → self.old.shut ≡ None
             → refused_plainly (who_at self.old.nodes n) (known_at self.old n) (Do r) ≡ Some x → result ≡ Err (SiteFault.Refused (number_of x)) }
+        // Promise 11.3, part 5
         ensures shut { (faults : ℕ) → self.old.shut ≡ Some faults → result ≡ Err (SiteFault.Shut faults) }
     {
         if let Some(faults) = self.shut {
