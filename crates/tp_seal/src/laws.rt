@@ -12,8 +12,9 @@ pub fn a_log_that_grew_keeps_its_seal()
         → take seal.len after ≡ take seal.len log → Holds seal after }
 {}
 
-// Promise 25.7: Each image of a call that leaves the bytes before the log's closing gate as they
-//   were, as a force and a settle do, has each seal of the log that ends at that gate or before it
+// Promise 25.7: Where a log is all on its disk, each image of a call that leaves the bytes before
+//   its closing gate as they were, as a force and a settle do, has each seal of the log that ends
+//   at that gate or before it
 /// A seal that ends at the closing gate or before it is one of each image of a call that leaves the bytes before that gate as they were.
 pub fn a_log_that_a_call_left_keeps_its_seal()
     ensures { (seal : Seal) (gate : ℕ) (log : List ℕ) (old new : Option Story) → IsOn old log → Holds seal log → seal.len ≤ gate → gate ≤ length log
