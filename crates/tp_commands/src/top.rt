@@ -27,16 +27,16 @@ use tp_words::{Command, WordsFault, read};
 /// sink and the disk as it was, where it has no fault status for it.
 ///
 /// `replay` reads a schedule from the source and writes its transcript to the sink, for some answers that the members may
-/// give, who are numbered from 1. Where each member has one answer to what it is told, a schedule has no two transcripts. Where
-/// the sink fails or memory is wanting, what is written is a prefix of that; where the source fails, it is the transcript of
-/// the lines whose ends were read, without closing lines. The world of each transcript keeps all that is promised of runs.
-/// `make` writes the schedule that is made by the plan, and `trial` replays it and writes what it came to. `format` makes
-/// the disk hold a fresh log. `show` writes each record of the disk's log with its place, and `check` each Damage that is its key's last record, of which it answers the number. `compact` and
-/// `migrate` put the log's brief in its place. `keys` writes what the store on the disk holds. `node` is a site on the
-/// disk's log, which is given the events that the frames of the source say, and writes its outputs as frames. `tx` is a
-/// face of node 1 of such a site, which is given calls and events, and ends each answer with its stand and its code.
-/// `audit` reads the logs of several sites, and writes whether two nodes of one tree ended apart, and what awaits each node
-/// that is in doubt.
+/// give, who are numbered from 1. Where each member has one answer to what it is told, a schedule has no two transcripts.
+/// Where the sink fails or memory is wanting, what is written is a prefix of that; where the source fails, it is the
+/// transcript of the lines whose ends were read, without closing lines. The world of each transcript keeps all that is
+/// promised of runs. `make` writes the schedule that is made by the plan, and `trial` replays it and writes what it came
+/// to. `format` makes the disk hold a fresh log. `show` writes each record of the disk's log with its place, and `check`
+/// each Damage that is its key's last record, of which it answers the number. `compact` and `migrate` put the log's brief
+/// in its place. `keys` writes what the store on the disk holds. `node` is a site on the disk's log, which is given the
+/// events that the frames of the source say, and writes its outputs as frames. `tx` is a face of node 1 of such a site,
+/// which is given calls and events, and ends each answer with its stand and its code. `audit` reads the logs of several
+/// sites, and writes whether two nodes of one tree ended apart, and what awaits each node that is in doubt.
 pub fn run<S: Source, K: Sink, D: Disk, M: Member>(
     alloc: Global,
     words: &[&str],

@@ -62,11 +62,11 @@ pub fn what_is_over_is_closed()
 {}
 
 // Promise 23.3 [tp_finishing/specs/Finishing.antt]: **No run is stuck**: from every world of that
-//   kind, recovery alone ends every transaction, and no tree is open then. In all it takes at most
-//   so many lines: for a transaction in doubt seven and three for each branch; for one that commits
-//   three for each branch that is neither done nor left, one if its user has not finished, and
-//   three more, or one at a root; for one that is kept three for each branch that it owes and three
-//   more, or one where it is a root's or a rollback
+//   kind (23.2), recovery alone ends every transaction, and no tree is open then. In all it takes
+//   at most so many lines: for a transaction in doubt seven and three for each branch; for one that
+//   commits three for each branch that is neither done nor left, one if its user has not finished,
+//   and three more, or one at a root; for one that is kept three for each branch that it owes and
+//   three more, or one where it is a root's or a rollback
 /// From every run after which no node has an association and none is active or rolls, recovery alone ends every transaction:
 /// by retries, deliveries of frames that were sent since, users that say that they have finished, and purges. In all it takes at most so
 /// many lines: for a transaction in doubt seven and three for each branch; for one that commits three for each branch that is neither done

@@ -223,10 +223,10 @@ pub fn transact<S: Source, K: Sink, D: Disk>(
     // Promise 14.8 [tp_tx/specs/Transcript.antt]: On a log in order, what is written is the
     //   transcript of the definitions, and it ends as that does and leaves its log; where the
     //   outside fails or memory runs out, a prefix of it is written
-    // Promise 14.9: At any moment from the first sync on a crash leaves what the site began on, or
-    //   the log of the run after the first so many events; at the end, where the face was made, one
-    //   with every event of whose answer a byte was written. A foreign log is only said to read as
-    //   foreign
+    // Promise 14.9: At any moment from the first sync on a crash leaves a log of the records on
+    //   which the site began, or of those of the run on its first so many events: at the end, where
+    //   the face was made, on all at least of whose answers a byte was written. A foreign log is
+    //   only said to read as foreign
     ensures transacts { (s : Story) → D.told disk ≡ Some s → IsFile (seen s)
         → Transacts name (record {
           told = s;
