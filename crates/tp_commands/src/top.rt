@@ -27,16 +27,16 @@ use tp_words::{Command, WordsFault, read};
 /// sink and the disk as it was, where it has no fault status for it.
 ///
 /// `replay` reads a schedule from the source and writes its transcript to the sink, for some answers that the members may
-/// give, who are numbered from 1. Where each member has one answer to what it is told, a schedule has one transcript. Where
-/// the sink fails or memory is wanting, what is written is a prefix of that; where the source fails, it is the transcript of
-/// the lines whose ends were read, without closing lines. The world of each transcript keeps all promises. `make` writes the schedule that is made by the plan, and `trial` replays it and
-/// writes what it came to. `format` makes the disk hold a fresh log. `show` writes each record of the disk's log with
-/// its place, and `check` each Damage that is its key's last record, of which it answers the number. `compact` and
-/// `migrate` put the log's brief in its place. `keys` writes what the store on the disk holds. `node` is a site on the
-/// disk's log, which is given the events that the frames of the source say, and writes its outputs as frames. `tx` is a
-/// face of node 1 of such a site, which is given calls and events, and ends each answer with its stand and its code.
-/// `audit` reads the logs of several sites, and writes whether two nodes of one tree ended apart, and what awaits each node
-/// that is in doubt.
+/// give, who are numbered from 1. Where each member has one answer to what it is told, a schedule has no two transcripts.
+/// Where the sink fails or memory is wanting, what is written is a prefix of that; where the source fails, it is the
+/// transcript of the lines whose ends were read, without closing lines. The world of each transcript keeps all that is
+/// promised of runs. `make` writes the schedule that is made by the plan, and `trial` replays it and writes what it came
+/// to. `format` makes the disk hold a fresh log. `show` writes each record of the disk's log with its place, and `check`
+/// each Damage that is its key's last record, of which it answers the number. `compact` and `migrate` put the log's brief
+/// in its place. `keys` writes what the store on the disk holds. `node` is a site on the disk's log, which is given the
+/// events that the frames of the source say, and writes its outputs as frames. `tx` is a face of node 1 of such a site,
+/// which is given calls and events, and ends each answer with its stand and its code. `audit` reads the logs of several
+/// sites, and writes whether two nodes of one tree ended apart, and what awaits each node that is in doubt.
 pub fn run<S: Source, K: Sink, D: Disk, M: Member>(
     alloc: Global,
     words: &[&str],
@@ -57,13 +57,14 @@ pub fn run<S: Source, K: Sink, D: Disk, M: Member>(
     // Promise 18.9 [tp_replay/specs/Making.antt]: `make` writes the schedule of its plan, or a
     //   prefix of it where the sink fails
     // Promise 18.10 [tp_replay/specs/Trying.antt]: `trial` writes the summary of the replay of that
-    //   schedule, or how that replay ends
+    //   schedule, or a prefix of it where the sink fails; where a line ends that replay, it ends as
+    //   the replay does and writes nothing
     // Promise 18.11 [tp_commands/specs/Logs.antt]: `show` and `check` write and leave what chapter 4
     //   says, `compact` and `migrate` leave it, and an image at any moment is as said there
-    // Promise 18.12 [tp_commands/specs/Sites.antt]: `node` does on the log what the loop of a site over
-    //   frames does
-    // Promise 18.13 [tp_commands/specs/Faces.antt]: `tx` does on the log what the loop of a face over
-    //   frames does
+    // Promise 18.12 [tp_commands/specs/Sites.antt]: `node` does on the log what the loop of a site
+    //   over frames does (13.1 to 13.6)
+    // Promise 18.13 [tp_commands/specs/Faces.antt]: `tx` does on the log what the loop of a face
+    //   over frames does (14.8, 14.9, 14.11)
     // Promise 18.14 [tp_commands/specs/Keys.antt]: `keys` writes a line for each key of the store;
     //   nothing where there is no store or the disk fails, and a prefix where the sink fails
     // Promise 18.15 [tp_commands/specs/Auditing.antt]: `audit` writes the verdict and the fates of the
@@ -88,20 +89,22 @@ pub fn run<S: Source, K: Sink, D: Disk, M: Member>(
     //   came
     ensures disk { map (λ w. w.now) words.now ≡ replay_words → result.1 ≡ disk }
     // Promise 18.3 [tp_replay/specs/Transcribing.antt, clauses transcript answers]: **`replay`
-    //   writes the transcript of the definitions, for every schedule and every list of members**:
-    //   there are answers, one to each indication that is put to a member and each as that member
-    //   may answer, and the run ends as the transcript for them ends
-    // Promise 18.4 [tp_replay/specs/Transcribing.antt, clauses transcript answers]: Where the
-    //   source fails, what is written is the transcript of whole lines of the schedule, without
-    //   closing lines, and of the lines after them no line's end was read
+    //   writes the transcript of the definitions, for every schedule and every list of members**,
+    //   unless the source or the sink fails: there are answers, one to each indication that is put
+    //   to a member and each as that member may answer, and the run ends as the transcript for them
+    //   ends
+    // Promise 18.4 [tp_replay/specs/Transcribing.antt, clauses transcript answers]: Where a fault
+    //   of the source ends the run, what is written is the transcript of whole lines of the
+    //   schedule, without closing lines, and of the lines after them no line's end was read
     // Promise 18.5 [tp_replay/specs/Transcribing.antt, clauses transcript answers]: Where the sink
-    //   fails or memory runs out, a prefix of the transcript for the answers that were given
+    //   fails or memory runs out, what is written is a prefix of the transcript for some answers
+    //   that the members may give
     ensures transcript { map (λ w. w.now) words.now ≡ replay_words → (bytes : List ℕ) → S.left source.old ≡ Some bytes
         → Transcribes (may_of M.allowed members.items) (length members.items) bytes result.0 (S.left source.new) (K.written sink.old) (K.written sink.new) }
     // Promise 18.19, part 3
     ensures one { AreCertain (may_of M.allowed members.items) → (bytes : List ℕ) → IsOne (may_of M.allowed members.items) (length members.items) bytes }
-    // Promise 18.8: The world of each transcript keeps all promises, the headline with them, also
-    //   where the source or the sink failed
+    // Promise 18.8: The world of each transcript keeps all that is promised of runs (16.57), the
+    //   headline with it, also where the source or the sink failed
     ensures promised { (bytes : List ℕ) (answers : List (Option Request)) → AllPromised (transcript_with (length members.items) bytes answers).world }
     // Promise 18.7: A schedule whose transcript comes to its end, whatever the members answer of
     //   what they may, is replayed to its end where neither source nor sink fails and memory does

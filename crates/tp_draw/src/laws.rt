@@ -30,10 +30,10 @@ pub fn each_log_line_is_one_mark()
 {}
 
 // Promise 21.3 [tp_draw/specs/Laws.antt]: An arrow ends in the row of the first line that says that
-//   its frame was taken or lost, and what was taken is refused where the next line says so; an
-//   arrow has no end where no line says either
+//   its frame was taken or lost, and what was taken is refused exactly where the next line says
+//   that something was refused or dropped; an arrow has no end where no line says either
 /// An arrow ends in the row of the first line that says that its frame was taken or lost, and what was taken is refused
-/// where the line after it says so; where no line says either, it has no end.
+/// where the line after it says that something was refused or dropped; where no line says either, it has no end.
 pub fn an_arrow_ends_where_its_frame_does()
     ensures { (os : List OutLine) (k : ℕ) → Says k os (end_of os k) }
 {}
@@ -49,17 +49,20 @@ pub fn each_take_ends_one_arrow()
 {}
 
 // Promise 21.12 [tp_draw/specs/Laws.antt]: At each line the band on a lane is what the last record
-//   of its node says: in doubt, committed, rolled back, or nothing; and there is a gap where a stop
-//   of its site is later than its last start
-/// After any number of lines the band of a lane is what the last record of its node says, and there is a gap where its
-/// site is down.
+//   of its node says that is no heuristic decision: in doubt, committed, rolled back, or nothing,
+//   where it may say that the node rolls back; and there is a gap where a stop of its site is later
+//   than its last start
+/// After any number of lines the band of a lane is what the last record of its node says that is no heuristic decision; where that
+/// says nothing the node may be rolling back. There is a gap where its site is down.
 pub fn a_band_is_what_the_records_say()
     ensures { (os : List OutLine) (count place : ℕ) (t : Track) → item (tracks_after (take count os) (first_tracks os)) place ≡ Some t
         → IsTrack (take count os) (item (lanes_of os) place) t }
 {}
 
-// Promise 21.5 [tp_draw/specs/Laws.antt]: Each node that a transcript names has one lane
-/// Each node that a transcript names has one lane.
+// Promise 21.5 [tp_draw/specs/Laws.antt]: Each node that a transcript names by its declaration, a
+//   record of it in the log, a frame from it or to it, what its user is told, or its state, has one
+//   lane
+/// Each node that a transcript names by its declaration, a record, a frame, what its user is told, or its state, has one lane.
 pub fn each_node_has_one_lane()
     ensures { (os : List OutLine) (n : ℕ) → is_named n os ≡ true → HasOneLane n (lanes_of os) (place_of os n) }
 {}
@@ -73,9 +76,9 @@ pub fn a_chosen_node_keeps_its_lane()
     ensures others { (ns : List ℕ) (os : List OutLine) (n : ℕ) → 0 < length ns → is_among n ns ≡ false → lanes_with n (lanes_of (chosen ns os)) ≡ 0 }
 {}
 
-// Promise 21.6 [tp_draw/specs/Escapes.antt]: A text is text alone in an SVG file, whatever its
-//   octets are
-/// A text is text alone in an SVG file, whatever its octets are.
+// Promise 21.6 [tp_draw/specs/Escapes.antt]: A text that is escaped for an SVG file is text alone
+//   there, whatever its octets are
+/// A text that is escaped for an SVG file is text alone there, whatever its octets are.
 pub fn text_is_escaped()
     ensures { (xs : List ℕ) → is_text (escaped xs) ≡ true }
 {}

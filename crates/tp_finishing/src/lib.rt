@@ -16,17 +16,18 @@ ghost use Rattle.tp_model.specs.Happenings.{Happening, run};
 
 // Promise 23.1 [tp_finishing/specs/Doubt.antt]: A node in doubt whose superior is neither active
 //   nor in doubt commits or rolls back after one retry of its own and the delivery of two frames
-//   that were sent since, with all associations in place, as long as each that is live has a number
-//   left for a record to each branch and one more
+//   that were sent since, and no association need be lost for it, as long as each of its own that
+//   is live has a number left for a record to each branch and one more
 /// In every run, a node in doubt whose superior is neither active nor in doubt hears how its tree ended by one retry and the
-/// delivery of two frames that were sent since, with all its associations in place: it commits, or it rolls back.
+/// delivery of two frames that were sent since, and no association need be lost for it: it commits, or it rolls back.
 pub fn doubt_ends()
     ensures { DoubtEnds }
 {}
 
-// Promise 23.2 [tp_finishing/specs/Quiet.antt]: One stop of each site leaves no association
-//   anywhere, and no node that is active or rolls back
-/// From every run, one stop of each site leads to a world in which no node has an association, and none is active or rolls.
+// Promise 23.2 [tp_finishing/specs/Quiet.antt]: From every run some stops of sites, at most as many
+//   as there are sites, leave no association anywhere, and no node that is active or rolls back
+/// From every run, some stops of sites, at most as many as there are sites, lead to a world in which no node has an association, and none
+/// is active or rolls.
 pub fn stops_quieten()
     ensures { StopsQuieten }
 {}
@@ -40,13 +41,13 @@ pub fn rollbacks_wait()
     ensures { RollbacksWait }
 {}
 
-// Promise 23.5 [tp_finishing/specs/Cuts.antt]: Cuts do what stops do: the loss of each association,
-//   users that say that they have finished, and users of active transactions that ask for rollback;
-//   one for each association, and one for each transaction that is active or rolls back. Nothing is
-//   asked of the run but numbers: an active transaction has one left on each live association for a
-//   record to each branch and one more
-/// From every run, where each active transaction has numbers left for its rollback, so many cuts lead there too: the loss of each
-/// association, users that say that they have finished, and users of active transactions that ask for rollback.
+// Promise 23.5 [tp_finishing/specs/Cuts.antt]: Cuts do what stops do: the loss of associations,
+//   users that say that they have finished, and users that ask for rollback; in all at most one for
+//   each node's end of an association, and one for each transaction that is active or rolls back.
+//   Nothing is asked of the run but numbers: an active transaction has one left on each live
+//   association for a record to each branch and one more
+/// From every run, where each active transaction has numbers left for its rollback, so many cuts lead there too: the loss of
+/// associations, users that say that they have finished, and users that ask for rollback.
 pub fn cuts_quieten()
     ensures { CutsQuieten }
 {}
@@ -61,26 +62,26 @@ pub fn what_is_over_is_closed()
 {}
 
 // Promise 23.3 [tp_finishing/specs/Finishing.antt]: **No run is stuck**: from every world of that
-//   kind, recovery alone ends every transaction, and no tree is open then. A transaction in doubt
-//   takes seven lines at most and three for each branch; one that commits three for each branch
-//   that is not done, one if its user has not finished, and three more, or one at a root; one that
-//   is kept three for each branch that it owes and three more, or one where it is a root's or a
-//   rollback
+//   kind (23.2), recovery alone ends every transaction, and no tree is open then. In all it takes
+//   at most so many lines: for a transaction in doubt seven and three for each branch; for one that
+//   commits three for each branch that is neither done nor left, one if its user has not finished,
+//   and three more, or one at a root; for one that is kept three for each branch that it owes and
+//   three more, or one where it is a root's or a rollback
 /// From every run after which no node has an association and none is active or rolls, recovery alone ends every transaction:
-/// by retries, deliveries of frames that were sent since, users that say that they have finished, and purges. A transaction in doubt
-/// takes seven lines at most and three for each branch; one that commits takes three for each branch that is not done, one if its user
-/// has not finished, and three more, or one at a root; one that is kept takes three for each branch that it owes, and three more, or one
-/// where it is a root's or a rollback. No tree is open then.
+/// by retries, deliveries of frames that were sent since, users that say that they have finished, and purges. In all it takes at most so
+/// many lines: for a transaction in doubt seven and three for each branch; for one that commits three for each branch that is neither done
+/// nor left, one if its user has not finished, and three more, or one at a root; for one that is kept three for each branch that it owes,
+/// and three more, or one where it is a root's or a rollback. No tree is open then.
 pub fn no_run_is_stuck()
     ensures { NoRunIsStuck }
 {}
 
-/// So from every run, whatever happened in it, one stop of each site and then so many lines of recovery end every transaction, and
-/// no tree is open then. So do cuts in place of the stops, where each active transaction has numbers left for its rollback.
+/// So from every run, whatever happened in it, at most as many stops as there are sites and then so many lines of recovery end every
+/// transaction, and no tree is open then. So do cuts in place of the stops, where each active transaction has numbers left for its rollback.
 pub fn every_run_ends()
-    // Promise 23.4 [tp_finishing/specs/Finishing.antt]: **So every run may be ended**: by one stop
-    //   of each site at most, and then by so many lines of recovery, counted in the world that the
-    //   stops leave
+    // Promise 23.4 [tp_finishing/specs/Finishing.antt]: **So every run may be ended**: by at most
+    //   as many stops as there are sites, and then by so many lines of recovery, counted in the
+    //   world that the stops leave
     ensures stops { EveryRunEnds }
     // Promise 23.9 [tp_finishing/specs/Finishing.antt]: Or by so many cuts (23.5) in place of the
     //   stops, where there are numbers left for them

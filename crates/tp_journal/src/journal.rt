@@ -103,8 +103,8 @@ impl<D: Disk> Journal<D> {
         //   `Shut` alone
         ensures order { IfErr result (ComesInOrder self.old rec.now) }
         ensures untouched { IfErr result (KeepsDisk self.old.disk self.new.disk) }
-        // Promise 25.5: At every moment of a force, and of a settle, an image has the bytes before
-        //   the log's closing gate as they were
+        // Promise 25.5: At every moment of a force, and of a settle, of a log that is all on its
+        //   disk, an image has the bytes before the log's closing gate as they were
         ensures front { LeavesFront self.old.gate (D.told self.old.disk) (D.told self.new.disk) }
     {
         self.check(rec)?;

@@ -204,13 +204,13 @@ pub fn a_deployment_keeps_the_promises()
 {}
 
 /// In every run, a node in doubt whose superior is neither active nor in doubt hears how its tree ended by one retry and the delivery of
-/// two frames that were sent since, with all its associations in place: it commits, or it rolls back.
+/// two frames that were sent since, and no association need be lost for it: it commits, or it rolls back.
 pub fn doubt_ends()
     ensures { DoubtEnds }
 {}
 
-/// No run is stuck. Whatever happened in it, one stop of each site, or so many cuts of associations, leave no association and no node
-/// that is active or rolls back; from there, so many lines of recovery alone end every transaction; and then no tree is open. Cuts ask for
+/// No run is stuck. Whatever happened in it, at most as many stops as there are sites, or so many cuts of associations, leave no association
+/// and no node that is active or rolls back; from there, so many lines of recovery alone end every transaction; and then no tree is open. Cuts ask for
 /// numbers that are left, and nothing else.
 pub fn no_run_is_stuck()
     ensures stops { StopsQuieten }
@@ -257,7 +257,7 @@ pub fn members_can_be_written_out()
     ensures none { (members : ℕ) (ls : List Line) (answers : List (Option Request)) → SpeaksOfNone members ls answers }
 {}
 
-// Promise 17.6: So the chief laws over every run hold of it
+// Promise 17.6: So what is promised of every run in `tp_model/specs/Promises.antt` holds of it
 /// So of every schedule with members: every history is legal, what one end of an association took is a prefix of what
 /// the other end sent, users are told what the log and the rolls say, two live ends of a dialogue never both hold control, a
 /// node and its branches are as promised, of two nodes of one tree told different outcomes at least one logged a decision, a

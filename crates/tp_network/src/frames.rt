@@ -160,8 +160,9 @@ impl Frames {
 
     /// The oldest frame from the one node to the other that is not handed over counts as handed over from now on: its number.
     pub fn hand_between(&mut self, from: u16, to: u16) -> Option<u16>
-        // Promise 15.11 [clauses number frames]: The frames between nodes are the definitions' list
-        //   of them, and the frame that is handed over is the one that they name oldest
+        // Promise 15.11 [clauses number frames]: The frame that is handed over is the one that the
+        //   definitions name oldest, of all or from one node to another, and it alone is marked in
+        //   their list of frames
         ensures number { result ≡ oldest_from 0 (is_between from to) self.old }
         ensures frames { self.new ≡ handed_over self.old result }
     {

@@ -184,7 +184,8 @@ impl TreeSummaries {
     }
 
     // Promise 15.13: What a node did in a tree, in five facts, is what each change in turn makes of
-    //   it, and tells what the nodes that stay were told
+    //   it; and of the nodes of a list that stay in a tree it is told whether some, and whether
+    //   all, were told each outcome
     /// The summaries after an entry, which speaks of at most three trees, mostly one. Without memory the summaries in other trees
     /// stay what they were.
     #[inline(always)]

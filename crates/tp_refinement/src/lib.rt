@@ -14,7 +14,8 @@ ghost use Rattle.tp_refinement.specs.Refinement.{tree_in, RunsRefine, RunsAreOnT
 ghost use Rattle.tp_refinement.specs.Deployed.{tree_at, DeploymentsRefine, DeploymentsAreOnThePage};
 
 // Promise 24.1 [tp_refinement/specs/Refinement.antt]: **Every run is a run of the page**: whatever
-//   happens is steps of the page in every tree, so what a run leaves of a tree is reached there
+//   happens is steps of the page in every tree, or none, so what a run leaves of a tree is reached
+//   there
 /// Whatever happens in a run, a request, a delivery in any order or again, a loss, a decision, a giving up, a crash in the middle of a write,
 /// is steps of the page in every tree. So what every run leaves of a tree is reached on the page.
 pub fn every_run_is_a_run_of_the_page()
@@ -29,19 +30,20 @@ pub fn every_run_keeps_the_sentences_of_the_page()
 {}
 
 // Promise 24.4 [tp_refinement/specs/Refinement.antt]: What the page says of the trees of a world is
-//   promised of the world: its first two sentences are those of the service (16.26, 16.37, 16.38),
-//   and by its third, where nobody rolled back or decided to and no node can go on, every node that
-//   stays has committed, and was told that this is complete with no report
-/// What the page's sentences say of the trees that a world has is promised of the world: the first two are those of the service; and
-/// where on the page nobody rolled back or decided to, and no node can go on, every node that stays has committed, and was told that this is
-/// complete with no report.
+//   promised of the world: its first two sentences are those of the service (16.26, 16.37, and
+//   16.38 but for its closing line), and by its third, where nobody rolled back or decided to and
+//   no node can go on, every node that stays has committed, and was told that this is complete with
+//   no report
+/// What the page's sentences say of the trees that a world has is promised of the world: the first two are those of the service; and where
+/// on the page nobody rolled back or decided to, and no node can do more than roll back or decide, every node that stays has committed, and
+/// was told that this is complete with no report.
 pub fn the_page_speaks_of_worlds()
     ensures { (w : World) → SaysOfWorlds w }
 {}
 
-// Promise 24.8 [tp_refinement/specs/Refinement.antt]: A settled tree (16.60) is at rest on the
-//   page, and nobody rolled back or decided to: so the page's third sentence speaks wherever that
-//   of the service does
+// Promise 24.8 [tp_refinement/specs/Refinement.antt]: A settled tree (16.60) of a run is at rest on
+//   the page, and nobody rolled back or decided to: so the page's third sentence speaks wherever
+//   that of the service does
 /// In every run, a tree in which each word was taken, nothing failed, no user owes its done and each asked for commitment or left is at rest
 /// on the page, and nobody rolled back or decided to; so the third sentence of the page speaks wherever that of the service does.
 pub fn a_settled_tree_is_at_rest_on_the_page()
@@ -49,8 +51,8 @@ pub fn a_settled_tree_is_at_rest_on_the_page()
 {}
 
 // Promise 24.5 [tp_refinement/specs/Deployed.antt]: A deployment (22) is a run of the page too:
-//   whatever its processes do more is steps of the page in every tree, and the sentences hold of
-//   what they leave
+//   whatever its processes do more is steps of the page in every tree, or none, and the sentences
+//   hold of what they leave
 /// Whatever the processes of a deployment do more is steps of the page in every tree, by the histories that they give the nodes of their
 /// sites. So what they leave of a tree is reached on the page, and keeps its sentences.
 pub fn every_deployment_is_a_run_of_the_page()

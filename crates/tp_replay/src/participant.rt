@@ -36,8 +36,8 @@ impl<D: Disk + Drop> Member for Participant<D> {
     }
 }
 
-/// Member 1 is willing, member 2 unwilling, and member 3 the store, where there is one. Over a disk that does not fail each has one
-/// answer to what it is told.
+/// Member 1 is willing, member 2 unwilling, and member 3 the store, where there is one. Over a disk that never fails, where the store
+/// is not shut, each has one answer to what it is told after the same answers.
 pub fn participants<D: Disk + Drop>(
     alloc: Global,
     store: Option<Bound<D>>,

@@ -174,10 +174,11 @@ pub fn replay<S: Source, K: Sink, M: Member>(
     ensures reads { (bytes : List ℕ) → S.left source.old ≡ Some bytes → Reads bytes result (S.left source.new) }
     ensures transcript { (bytes : List ℕ) → S.left source.old ≡ Some bytes
         → Writes (Tells (may_of M.allowed members.items) (length members.items) bytes result (S.left source.new)) (K.written sink.old) (K.written sink.new) }
-    // Where each member has one answer to what it is told, the transcript is one.
-    // Promise 18.19 [tp_replay/specs/Certain.antt]: Where each member has one answer to what it is
-    //   told, a schedule has one transcript: that with the answers that the members must give. So
-    //   it is of the members of the program, the store among them, over a disk that never fails
+    // Where each member has one answer to what it is told, there are no two transcripts.
+    // Promise 18.19 [tp_replay/specs/Certain.antt]: Where after the same answers each member has
+    //   one answer to what it is told, a schedule has no two transcripts: no two lists of answers
+    //   fit it. So it is of the members of the program, the store among them, over a disk that
+    //   never fails, where the store is not shut
     ensures one { AreCertain (may_of M.allowed members.items) → (bytes : List ℕ) → IsOne (may_of M.allowed members.items) (length members.items) bytes }
 {
     let mut out = Octets::new(alloc);

@@ -23,7 +23,7 @@ impl Seal {
     pub fn of(name: SiteName, log: &[u8]) -> Seal
         ensures name { result.name ≡ name }
         ensures holds { Holds result log.now }
-        // Promise 25.6: What is sealed of a log ends at its closing gate
+        // Promise 25.6: What is sealed of a log ends at its closing gate, or before it
         ensures gate { (bodies : List (List ℕ)) → StandsFor log.now bodies → result.len ≤ place_behind bodies }
     {
         let front = front_of(log);

@@ -148,9 +148,10 @@ impl<D: Disk> SealFile<D> {
     /// records. The log is synced, so that no seal is of bytes which a crash takes away. One that is to grow is sealed as it is; of one
     /// that is to be shortened a seal of nothing is put.
     pub fn admit<L: Disk>(&mut self, alloc: Global, duty: Duty, log: &mut L) -> Result<(), Refusal>
-        // Promise 25.3 [clauses holds named settled same]: A command is let at a log only where the
-        //   log is the one that was sealed, and, where the command adds records, of the site of
-        //   that name. The log is as it was, and a crash leaves it so
+        // Promise 25.3 [clauses holds named settled same]: Where there is a seal, a command is let
+        //   at a log only where the log begins with what was sealed and, where the command adds
+        //   records, the seal is of the site of that name; a crash then leaves the log as it is. In
+        //   every case the log is as it was
         ensures holds { OnOk result ((s : Story) → L.told log.new ≡ Some s → IfSome self.old.seal (λ seal. Holds seal (seen s))) }
         ensures named { OnOk result ((n : List ℕ) → duty ≡ Duty.Grow n → IfSome self.old.seal (λ seal. seal.name ≡ n)) }
         ensures settled { OnOk result ((s : Story) → L.told log.new ≡ Some s → IsSettled s) }
@@ -180,8 +181,8 @@ impl<D: Disk> SealFile<D> {
         duty: Duty,
         log: &mut L,
     ) -> Result<(), SealFault>
-        // Promise 25.4: After a command the newer seal is one of the log as a crash would leave it,
-        //   or is the one from before
+        // Promise 25.4: Once seals were renewed after a command, the newer is one of the log as a
+        //   crash would leave it, or is the one from before
         ensures ok { OnOk result ((s : Story) → L.told log.new ≡ Some s → IsSealed self.old.seal self.new.seal s) }
         ensures same { IsLeft (L.told log.old) (L.told log.new) }
     {

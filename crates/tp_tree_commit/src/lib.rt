@@ -9,21 +9,24 @@ ghost use Rattle.tp_tree_commit.specs.Examples.{EndsTogether, EndsApart};
 ghost use Rattle.tp_tree_commit.specs.Walks.{Walks};
 
 // Promise 24.2 [tp_tree_commit/specs/TreeCommit.antt]: **The page keeps three sentences by
-//   itself**: of two nodes that are told different outcomes one decided on its own, since where one
-//   committed none rolled back; where the root completes with no report, so does every node that
-//   did not leave, and its user was told to commit; and where nobody rolled back or decided to, and
-//   no node can go on, every node that did not leave has completed so, and there alone
-/// In every run of the page: of two nodes that are told different outcomes one decided on its own, since where one committed none rolled
-/// back; where the root's commitment is complete with no report, so is that of every node that did not leave, and its user was told to
-/// commit; and where nothing failed and no node can go on, and there alone, every node that did not leave has completed so.
+//   itself**: of two nodes that are told different outcomes at least one decided on its own, since
+//   where one committed none rolled back; where the root completes with no report, so does every
+//   node that did not leave, and its user was told to commit; and where nobody rolled back or
+//   decided to, and no node can go on, every node that did not leave has completed so, and there
+//   alone
+/// In every run of the page: of two nodes that are told different outcomes at least one decided on its own, since where one committed none
+/// rolled back; where the root's commitment is complete with no report, so is that of every node that did not leave, and its user was told
+/// to commit; and where nothing failed and no node can do more than roll back or decide, and there alone, every node that did not leave has
+/// completed so.
 pub fn the_page_keeps_its_sentences()
     ensures { (s : Tree) → Reached s → KeepsSentences s }
 {}
 
 // Promise 24.7 [tp_tree_commit/specs/Ends.antt]: A run of the page that leads to a tree has at most
-//   five times as many steps as that tree has nodes, so it comes to rest where no more nodes enter
+//   five times as many steps as that tree has nodes, so no run goes on for ever once no more nodes
+//   enter
 /// Each node of the page acts at most five times, so a run of the page that leads to a tree has at most five times as many steps
-/// as that tree has nodes, and comes to rest where no more nodes enter.
+/// as that tree has nodes, and none goes on for ever once no more nodes enter.
 pub fn each_node_acts_at_most_five_times()
     ensures most { FiveAtMost }
     ensures counted { RunsAreCounted }

@@ -212,7 +212,7 @@ fn open_face<D: Disk>(alloc: Global, disk: D, name: SiteName) -> Result<Face<Jou
 /// than 1,000,000 frames or 256 nodes declared by frames, or in which the record of the event has no room in the log. What came before
 /// was answered, and that frame is not. Before every frame `Foreign` tells the place at which the bytes of the disk are no log, or at
 /// which the first record stands that does not follow those before it, and a `Limit` at 0 that no boot number is left, or that the
-/// boot has no room; nothing is read then, and nothing written.
+/// boot has no room; no frame is read then, and nothing written.
 pub fn transact<S: Source, K: Sink, D: Disk>(
     alloc: Global,
     name: SiteName,
@@ -220,11 +220,13 @@ pub fn transact<S: Source, K: Sink, D: Disk>(
     sink: &mut K,
     disk: D,
 ) -> (D, Result<(), Stop>)
-    // Promise 14.8 [tp_tx/specs/Transcript.antt]: Over frames of a source and a sink that tell
-    //   their bytes, what is written is the transcript of the definitions, and it ends as that does
-    //   and leaves its log; where the outside fails or memory runs out, a prefix of it is written
-    // Promise 14.9: A crash at any moment from the first sync on leaves the log of the run on some
-    //   of the events, and one at the end a log with all that happened
+    // Promise 14.8 [tp_tx/specs/Transcript.antt]: On a log in order, what is written is the
+    //   transcript of the definitions, and it ends as that does and leaves its log; where the
+    //   outside fails or memory runs out, a prefix of it is written
+    // Promise 14.9: At any moment from the first sync on a crash leaves a log of the records on
+    //   which the site began, or of those of the run on its first so many events: at the end, where
+    //   the face was made, on all at least of whose answers a byte was written. A foreign log is
+    //   only said to read as foreign
     ensures transacts { (s : Story) → D.told disk ≡ Some s → IsFile (seen s)
         → Transacts name (record {
           told = s;
@@ -241,7 +243,7 @@ pub fn transact<S: Source, K: Sink, D: Disk>(
         (K.fault_count sink.old) (K.fault_count sink.new)) }
     ensures foreign { (at : ℕ) → result.1 ≡ Err (TheStop.Foreign at) → (source.new ≡ source.old) × (sink.new ≡ sink.old) }
     // Promise 14.11 [clauses before foreign]: At a limit at 0, and where the log is foreign,
-    //   nothing was read or written
+    //   nothing was read of the source, and nothing written to the sink
     ensures before { (what : Limits) → result.1 ≡ Err (TheStop.Limit what 0) → (source.new ≡ source.old) × (sink.new ≡ sink.old) }
     ensures read { S.fault_count source.old ≤ S.fault_count source.new }
     ensures kept { K.fault_count sink.old ≤ K.fault_count sink.new }

@@ -61,17 +61,19 @@ impl World {
         }
     }
 
-    // Promise 15.1: A line shows what the definitions show, with its echo, in a world without
-    //   members, and the world stands for the one that the line leaves
-    // Promise 15.2: A name that is taken or not there, and a limit, end a line exactly where they
-    //   do in the definitions
-    // Promise 15.3: A site that crashes is left as one that starts on the bytes of its journal, of
-    //   which none is foreign, with the next boot number, and its nodes are declared again
+    // Promise 15.1: In a world without members a line shows what the definitions show, with its
+    //   echo, which `play` leaves to its caller, and the world stands for the one that the line
+    //   leaves
+    // Promise 15.2: A name that is taken or not there, as each member's is, and a limit, end a line
+    //   exactly where they do in the definitions
+    // Promise 15.3: A site that a `crash` line stops has its log and one record more, that of the
+    //   next boot; each of its nodes knows what the definitions leave of it, and is declared again
     // Promise 15.4: A site that stops in a changing call of the force of an event's record loses
     //   the record or keeps it as the definitions say, and the event with it; its outputs go out in
     //   neither case
-    // Promise 15.6 [tp_world_sites/specs/Sites.antt]: After each line every site's disk has the
-    //   bytes of the definitions' disk, all of them, and `image` shows these
+    // Promise 15.6 [tp_world_sites/specs/Sites.antt]: After each line that does not end the run
+    //   every site's disk has the bytes of the definitions' disk, all of them, and `image` shows
+    //   these
     /// What a line shows, with its echo. One that speaks of a member ends the run. After a fault nothing is said of the world.
     pub fn line(&mut self, alloc: Global, line: &Line) -> Result<OutLines, WorldFault>
         ensures { (w : WorldValue) → Stands w self.old → Plays w line.now result self.new }

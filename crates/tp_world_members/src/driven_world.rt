@@ -14,8 +14,8 @@ use tp_names::NoMemory;
 use tp_records::Member;
 use tp_world::{World, WorldFault, is_silent};
 
-/// A world of nodes under a written schedule, with the members that were handed in, numbered from 1. Members are changed by
-/// being told alone, and one that is dropped is dropped in its line. Members of several kinds are an enum of the caller.
+/// A world of nodes under a written schedule, with the members that were handed in, numbered from 1. What they may
+/// answer after a line follows their answers in it, and one that is dropped is dropped in its line. Members of several kinds are an enum of the caller.
 #[derive(Drop)]
 pub struct DrivenWorld<M> {
     world: World,
@@ -61,7 +61,8 @@ impl<M: Member> DrivenWorld<M> {
     // Promise 15.7: With members, a line shows what the definitions show for some answers that they
     //   may give, one to each indication that is put to them; no answer is skipped and none is made
     //   up
-    // Promise 15.8: The members are changed by being told alone
+    // Promise 15.8: What a member may answer after a line is what it might answer after the answers
+    //   that it gave in the line
     /// What a line shows, with its echo, and what the answers of members show. After a fault the run has ended, and nothing more
     /// is said of the world.
     pub fn line(&mut self, alloc: Global, line: &Line) -> Result<OutLines, WorldFault>

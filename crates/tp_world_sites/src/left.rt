@@ -50,9 +50,9 @@ fn is_text_of(journal: &Journal<FuseDisk>, rec: &LogRec) -> bool
     has_text(version, rec)
 }
 
-// Promise 15.5 [tp_world_sites/specs/Left.antt]: What a stop leaves of a disk is made by the
-//   journal's own force over a disk that stops in that call, and is to the byte what the
-//   definitions say
+// Promise 15.5 [tp_world_sites/specs/Left.antt]: Of a disk that has all the bytes of a disk of the
+//   definitions, whose gate is closed and whose records have texts, a stop in the force of a record
+//   that has a text and room leaves what the definitions say, to the byte
 /// What is left of a disk by a stop in the force of a record, or after it. The start of the log makes one call before.
 pub fn left_by(
     alloc: Global,

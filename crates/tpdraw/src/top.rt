@@ -25,9 +25,9 @@ pub fn run<S: Source, K: Sink>(
     sink: &mut K,
 ) -> Status
     // Promise 21.9 [tpdraw/specs/Asked.antt, tpdraw/specs/NodeLists.antt, clauses usage unread]: Its
-    //   words are usage exactly where one of them is neither `--mermaid`, `--html`, `--lanes`,
-    //   `--fold`, `--from`, `--to` or `--nodes`, nor what follows one of the last three: a number
-    //   from 1 to 65535, after `--nodes` 1 to 16 of them with commas between; and then nothing is
+    //   words are taken exactly where each is `--mermaid`, `--html`, `--lanes` or `--fold`, or
+    //   `--from` or `--to` with a number from 1 to 65535 after it, or `--nodes` with 1 to 16 such
+    //   numbers with commas between, all without leading zeros; else they are usage, and nothing is
     //   read
     ensures usage { (result ≡ Status.Usage) ↔ (asked (map (λ w. w.now) words.now) ≡ None) }
     ensures unread { result ≡ Status.Usage → source.new ≡ source.old }

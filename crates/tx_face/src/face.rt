@@ -76,8 +76,10 @@ impl<K: Keeper> Face<K> {
         // Promise 14.4: A new face is the declaration of a node without a superior, which gives no
         //   outputs
         ensures made { IsMade K.standing site node result }
-        // Promise 14.5: After any list of calls the site stands where the definitions' run of their
-        //   events does
+        // Promise 14.5: Where the site of which a face is made stands where a run of the
+        //   definitions does, it does so after any list of calls: the events of the run are those
+        //   from before, the declaration, and those of the calls that were taken and that no fault
+        //   stopped
         ensures goes { (o : Opening) (gs : List Given) → IsAt K.standing all_nodes o gs site → GoesMade K.standing o gs site node result }
         ensures fresh { (known_at site node).declared ≡ false → site.shut ≡ None → IfErr result (λ e. e.1 ≡ SiteFaults.NoMemory) }
     {
@@ -166,6 +168,7 @@ impl<K: Keeper> Face<K> {
         // Promise 14.1, part 2
         // Promise 14.3, part 2
         ensures calls { Calls K.standing (takes_commit (stand_at self.old)) self.old (Given.Do self.old.node Asks.Commit) result self.new }
+        // Promise 14.5, part 3
         ensures goes { (o : Opening) (gs : List Given) (past : List Entry) → IsFaceAt K.standing o gs past self.old
             → GoesOn K.standing (takes_commit (stand_at self.old)) o gs past self.old (Given.Do self.old.node Asks.Commit) result self.new }
         ensures lasting { (K.standing self.new.site.keeper).lasting ≡ (K.standing self.old.site.keeper).lasting }
@@ -179,6 +182,7 @@ impl<K: Keeper> Face<K> {
         // Promise 14.1, part 3
         // Promise 14.3, part 3
         ensures calls { Calls K.standing (takes_rollback (stand_at self.old)) self.old (Given.Do self.old.node Asks.Rollback) result self.new }
+        // Promise 14.5, part 4
         ensures goes { (o : Opening) (gs : List Given) (past : List Entry) → IsFaceAt K.standing o gs past self.old
             → GoesOn K.standing (takes_rollback (stand_at self.old)) o gs past self.old (Given.Do self.old.node Asks.Rollback) result self.new }
         ensures lasting { (K.standing self.new.site.keeper).lasting ≡ (K.standing self.old.site.keeper).lasting }
@@ -192,6 +196,7 @@ impl<K: Keeper> Face<K> {
         // Promise 14.1, part 4
         // Promise 14.3, part 4
         ensures calls { Calls K.standing (takes_finish (stand_at self.old)) self.old (Given.Do self.old.node Asks.Done) result self.new }
+        // Promise 14.5, part 5
         ensures goes { (o : Opening) (gs : List Given) (past : List Entry) → IsFaceAt K.standing o gs past self.old
             → GoesOn K.standing (takes_finish (stand_at self.old)) o gs past self.old (Given.Do self.old.node Asks.Done) result self.new }
         ensures lasting { (K.standing self.new.site.keeper).lasting ≡ (K.standing self.old.site.keeper).lasting }
@@ -207,6 +212,7 @@ impl<K: Keeper> Face<K> {
         //   face's node that are begin-transaction, commit, done, rollback or unchanged
         // Promise 14.3, part 5
         ensures calls { Calls K.standing (is_fed self.old.node event.now) self.old event.now result self.new }
+        // Promise 14.5, part 6
         ensures goes { (o : Opening) (gs : List Given) (past : List Entry) → IsFaceAt K.standing o gs past self.old
             → GoesOn K.standing (is_fed self.old.node event.now) o gs past self.old event.now result self.new }
         ensures lasting { (K.standing self.new.site.keeper).lasting ≡ (K.standing self.old.site.keeper).lasting }
@@ -218,22 +224,24 @@ impl<K: Keeper> Face<K> {
     /// Where the program stands with its current transaction.
     pub fn stand(&self) -> Stand
         ensures stand { result ≡ stand_at self.now }
-        // Promise 14.6: The stand is that of what is known after the node's history, and the code
-        //   that of the last completion that the history told since the face was made
+        // Promise 14.6: Where a face stands so (14.5), its stand is that of what is known after the
+        //   node's history, and its code that of the last completion that the history told since
+        //   the face was made
         ensures at { (o : Opening) (gs : List Given) (past : List Entry) → IsFaceAt K.standing o gs past self.now
             → result ≡ stand (digest (origin_at o self.now.node) (history_at o gs self.now.node)) }
     {
         Stand::of(self.site.shown(self.node))
     }
 
-    /// How the last transaction that was complete since the face was made ended; None where none was. Committed at the root of a tree
-    /// means that every node of it that stays committed, in whatever run of a world this node's history stands.
+    /// How the last transaction that was complete since the face was made ended; None where none was. Committed at the root of its tree
+    /// means that every node of it that stays was told commit, in every run of a world in which a node's history ends with this one.
     pub fn code(&self) -> Option<Code>
         ensures code { result ≡ self.now.code }
         // Promise 14.6, part 2
         ensures at { (o : Opening) (gs : List Given) (past : List Entry) → (at : IsFaceAt K.standing o gs past self.now) → result ≡ code_of at.since }
-        // Promise 14.7: **Committed at the root of a tree means that every node of it that stays
-        //   was told commit**, in every run of a world in which a node has that history
+        // Promise 14.7: **Committed at the root of the tree that was complete last means that every
+        //   node of it that stays was told commit**, in every run of a world in which a node's
+        //   history ends with that since the face was made
         ensures committed { (o : Opening) (gs : List Given) (past : List Entry) → (at : IsFaceAt K.standing o gs past self.now)
             → (es : List Happening) (x : Node) (older : List Entry) → IsIn (run es) x → x.history ≡ at.since ++ older
             → result ≡ Some CodeValue.Committed → MeansAll (run es) x at.since older }
@@ -251,7 +259,7 @@ impl<K: Keeper> Face<K> {
 
 impl<K: Settles> Face<K> {
     // Promise 14.12, part 2
-    /// Forces all that its site has noted. The face stands where it stood; a fault of the disk shuts the site.
+    /// Forces all that its site has noted. The face stands where it stood; a fault of the disk shuts the log.
     pub fn settle_log(&mut self, coming: Coming) -> Result<(), ForceFault>
         ensures settles { SettlesTo (K.standing self.old.site.keeper) result (K.standing self.new.site.keeper) }
         ensures same { self.new ≡ record self.old { site = self.new.site } }
@@ -264,7 +272,9 @@ impl<K: Settles> Face<K> {
 }
 
 impl<D: Disk> Face<Journal<D>> {
-    // Promise 14.12: A face goes on so too, and stands where it stood
+    // Promise 14.12: A face that notes records from now on has the log, the nodes, the stand and
+    //   the code that it had; and a settle of its log leaves it where a run of events brought it
+    //   (14.5), also where the settle fails
     /// The same face over the same log, which notes records from now on.
     pub fn ahead(self, alloc: Global) -> Result<Face<Gathering<D>>, (Face<Journal<D>>, NoMemory)>
         ensures ok { IfOk result (λ face. face
