@@ -93,7 +93,7 @@ pub fn check<D: Disk, K: Sink>(alloc: Global, disk: D, sink: &mut K) -> (D, Resu
     // Promise 4.6, part 2
     ensures checks { IfOk result.1
         (λ n. (s : Story) → D.told disk ≡ Some s → IsFile (seen s) → Checks (seen s) n (K.written sink.old) (K.written sink.new) (D.told result.0)) }
-    // Promise 4.2, part 2
+    // Promise 4.2, part 2 [clauses checks stopped]
     ensures stopped { IfErr result.1 (λ stop. (s : Story) → D.told disk ≡ Some s → IsFile (seen s)
         → StopsShow (seen s) finding_texts (K.written sink.old) (K.written sink.new) (D.told result.0) stop) }
     // A crash at any moment from the first sync on leaves a log of the records that stood.
