@@ -30,6 +30,7 @@ const MOST_WAITING: usize = 65_536;
 // Promise 13.8: Of what waits nothing is written unless the answer of forcing, which is handed in,
 //   is Ok
 /// Writes the answers that wait, where forcing the records of their events has answered Ok; or stops with what it answered.
+/// After a stop `waiting` is thrown away.
 pub fn write_settled<K: Sink>(
     settled: Result<(), ForceFault>,
     waiting: &mut Octets,

@@ -135,7 +135,7 @@ fn woven_of(lanes: &[Lane]) -> Woven
 //   names a frame instead, some of the steps make an order that is a deployment, no other reaches a
 //   step more of any site, and that frame tells the first step of its site that none reaches
 /// Puts the steps of the sites into one order, in which what a step takes was said before; or tells where none goes on. That is the first
-/// frame, by its number, of those that no order reaches, one of each site that waits.
+/// frame, by its number, of those that no order reaches, one of each site that waits. Without memory the lanes are thrown away.
 pub fn weave(alloc: Global, lanes: &mut [Lane]) -> Result<Woven, NoMemory>
     ensures { IfOk result (λ woven. (qs : List PlaceValue) (rs : List Record) → AreApart rs → AreLanes qs rs lanes.old → Ends qs rs woven) }
 {
