@@ -18,8 +18,8 @@ struct Endings {
     open_trees: u64,
 }
 
-// Promise 2.37: The summary of a replay tells its lines, its frames, and how many trees ended each
-//   way, to the byte
+// Promise 2.37: The summary of a replay of so many lines and frames tells these numbers, and how
+//   many trees ended each way by its closing lines, to the byte
 /// Puts the summary of a replay of so many lines, which sent so many frames and was closed by these lines, at the end of
 /// `out`: how many lines and frames there were, and of how many trees all nodes committed, all rolled back, some did
 /// otherwise, and some have not ended. Each count stands on a line after its word. Without memory part of it may

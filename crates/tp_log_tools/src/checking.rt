@@ -86,14 +86,15 @@ fn check_log<D: Disk, K: Sink>(
     Ok(found.len() as u64)
 }
 
-/// Writes, as `show` does, each Damage of the disk's log that is its key's last record, and answers how many there are.
+/// Writes, as `show` does, each Damage of the disk's log that is the last record of its node and key, and answers how many
+/// there are.
 pub fn check<D: Disk, K: Sink>(alloc: Global, disk: D, sink: &mut K) -> (D, Result<u64, Stop>)
-    // Promise 4.4: `check` writes each Damage that is its key's last record, to the byte, and
-    //   answers their number
+    // Promise 4.4: `check` writes each Damage after which no record of its node and key comes, to
+    //   the byte, and answers their number
     // Promise 4.6, part 2
     ensures checks { IfOk result.1
         (λ n. (s : Story) → D.told disk ≡ Some s → IsFile (seen s) → Checks (seen s) n (K.written sink.old) (K.written sink.new) (D.told result.0)) }
-    // Promise 4.2, part 2
+    // Promise 4.2, part 2 [clauses checks stopped]
     ensures stopped { IfErr result.1 (λ stop. (s : Story) → D.told disk ≡ Some s → IsFile (seen s)
         → StopsShow (seen s) finding_texts (K.written sink.old) (K.written sink.new) (D.told result.0) stop) }
     // A crash at any moment from the first sync on leaves a log of the records that stood.

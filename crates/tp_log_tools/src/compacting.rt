@@ -28,10 +28,10 @@ fn stop_of(fault: CompactFault) -> Stop
 /// Puts the brief of the disk's log in its place, in the version that it has, and hands the disk back. `Foreign` is as for
 /// `show`, and nothing more is done then than a start does.
 pub fn compact<D: Disk>(alloc: Global, disk: D) -> (D, Result<(), Stop>)
-    // Promise 4.7: `compact` leaves the brief in the log's version, and `migrate` the brief in
-    //   version 2, to the byte
+    // Promise 4.7: Where they end Ok, `compact` has left the brief in the log's version, and
+    //   `migrate` the brief in version 2, to the byte
     ensures compacts { OnOk result.1 ((s : Story) → D.told disk ≡ Some s → IsFile (seen s) → Compacts (seen s) (D.told result.0)) }
-    // Promise 4.2, part 3
+    // Promise 4.2, part 3 [clauses compacts stopped]
     ensures stopped { IfErr result.1 (λ stop. (s : Story) → D.told disk ≡ Some s → IsFile (seen s) → StopsCompact (seen s) (D.told result.0) stop) }
     // A crash at any moment from the first sync on leaves a log of the records that stood, or of their brief.
     // Promise 4.9, part 3

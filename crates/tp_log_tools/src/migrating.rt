@@ -35,11 +35,11 @@ fn stop_of(fault: ForceFault) -> Stop
 /// than a start does.
 pub fn migrate<D: Disk>(alloc: Global, disk: D) -> (D, Result<(), Stop>)
     // Promise 4.7, part 2
-    // Promise 4.8 [clauses migrates stopped stops]: A log whose brief would be longer than a log
-    //   may be in version 2 is not migrated. The limit of the log, at 0, is answered in this case
-    //   alone, and the disk then has what a start leaves
+    // Promise 4.8 [clauses migrates stopped stops]: `migrate` ends Ok only where the brief in
+    //   version 2 is no longer than a log may be. The limit of the log, at 0, is answered only
+    //   where it is longer, and the disk then has what a start leaves
     ensures migrates { OnOk result.1 ((s : Story) → D.told disk ≡ Some s → IsFile (seen s) → Migrates (seen s) (D.told result.0)) }
-    // Promise 4.2, part 4
+    // Promise 4.2, part 4 [clauses migrates stopped]
     ensures stopped { IfErr result.1 (λ stop. (s : Story) → D.told disk ≡ Some s → IsFile (seen s) → StopsMigrate (seen s) (D.told result.0) stop) }
     // A crash at any moment from the first sync on leaves a log of the records that stood, or of their brief.
     // Promise 4.9, part 4

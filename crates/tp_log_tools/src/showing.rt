@@ -41,11 +41,12 @@ fn write_records<J: Keeper, K: Sink>(alloc: Global, log: &J, sink: &mut K) -> Re
 /// written.
 pub fn show<D: Disk, K: Sink>(alloc: Global, disk: D, sink: &mut K) -> (D, Result<(), Stop>)
     // Promise 4.3: `show` writes each record of a log in order with its place, to the byte
-    // Promise 4.6: After `show` and `check` the disk has what a start leaves, to the byte
+    // Promise 4.6: Where `show` and `check` end Ok the disk has what a start leaves, to the byte
     ensures shows { OnOk result.1 ((s : Story) → D.told disk ≡ Some s → IsFile (seen s)
         → Shows (seen s) placed_texts (K.written sink.old) (K.written sink.new) (D.told result.0)) }
-    // Promise 4.2: A log that is no log, or out of order, is foreign at the definitions' place, and
-    //   no other is
+    // Promise 4.2 [clauses shows stopped]: Of a file that is no log, or out of order, `Foreign` is
+    //   answered, at the definitions' place, unless the disk fails or memory runs out; and of no
+    //   other file
     ensures stopped { IfErr result.1 (λ stop. (s : Story) → D.told disk ≡ Some s → IsFile (seen s)
         → StopsShow (seen s) placed_texts (K.written sink.old) (K.written sink.new) (D.told result.0) stop) }
     // A crash at any moment from the first sync on leaves a log of the records that stood.
@@ -57,7 +58,7 @@ pub fn show<D: Disk, K: Sink>(alloc: Global, disk: D, sink: &mut K) -> (D, Resul
     //   new count
     ensures stops { IfErr result.1 (IsShowStop (D.fault_count disk) (D.fault_count result.0) (K.fault_count sink.old) (K.fault_count sink.new)) }
     // Promise 4.5 [clauses foreign disk_fault stopped]: Where the log is foreign or the disk fails
-    //   these two write nothing, and where the sink fails or memory runs out a prefix
+    //   `show` and `check` write nothing, and where the sink fails or memory runs out a prefix
     ensures foreign { (at : ℕ) → result.1 ≡ Err (TheStop.Foreign at) → sink.new ≡ sink.old }
     ensures disk_fault { (faults : ℕ) → result.1 ≡ Err (TheStop.DiskFault faults) → sink.new ≡ sink.old }
     ensures kept { K.fault_count sink.old ≤ K.fault_count sink.new }

@@ -8,14 +8,17 @@ ghost use Rattle.tp_logrec.specs.RecordReading.{record_grammar};
 ghost use Rattle.tp_logrec.specs.LogText.{IsLog, Foreign, Reads, Placed, recs, read_log, IsReadAs};
 ghost use Rattle.tp_logrec.specs.Order.{all_follow, brief, IsStandingAlike};
 
-// Promise 2.13: Log records have one text each in both versions, with the exact place of a fault
+// Promise 2.13: In either version of a log a record that has a text has just one, which reads back
+//   to it, and no text is a proper prefix of another; where bytes begin with none, the exact place
+//   is told where they are bad
 /// The texts of records, in each version: a text has one record, what is read is a text, and no
 /// text is a proper front of another.
 pub fn records_have_texts()
     ensures { (ver : LogVersion) → IsGrammar (record_grammar ver) }
 {}
 
-// Promise 2.17: A log stands for one list of records, and foreign bytes stand for none
+// Promise 2.17: Of fewer than 2^64 bytes, a log stands for the one list of records that is read of
+//   it, and what is read as foreign stands for none
 /// A log of records is read as that log.
 pub fn a_log_is_read()
     ensures { (bytes : List ℕ) (rs : List LogRec) → length bytes < 2 ^ 64 → IsLog bytes rs → IsReadAs bytes rs }

@@ -35,6 +35,7 @@ impl Model for OrderCheck {
 }
 
 impl OrderCheck {
+    // Promise 2.14, part 4
     /// That of no records.
     pub fn new(alloc: Global) -> OrderCheck
         ensures { IsCheckOf [] result }

@@ -59,8 +59,7 @@ impl Counter {
     }
 }
 
-// Promise 2.2: A mark is drawn once: none comes twice, and none of two counters of different boots
-//   or nodes
+// Promise 2.2: A counter draws no mark twice, and none that a counter of another boot or node draws
 /// A counter draws no mark twice, and no mark that a counter of another boot or node draws.
 pub fn marks_are_drawn_once()
     ensures one { (d : Drawing) (j k : ℕ) → j ≢ k → drawn d j ≢ drawn d k }

@@ -5,7 +5,8 @@ ghost use Rattle.tp_names.specs.Reading.{read_site, read_mark, read_aaid, read_b
 ghost use Rattle.tp_names.specs.Scanning.{scan_site, scan_mark, scan_aaid, scan_branch, scan_key, scan_addr, scan_outcome, scan_report, scan_octets, scan_child};
 ghost use Rattle.tp_names.specs.Places.{IsScan, IsWrittenBy};
 
-// Promise 2.4: Small values are read to the byte, with the place of a fault, and written so
+// Promise 2.4: Small values are read from the front of bytes as the definitions read them, to the
+//   byte, with the place of a fault; and what these read is what they write
 /// What a cursor gives is the value that stands first, and a fault is at the first byte with
 /// which no value goes on.
 pub fn values_are_scanned()

@@ -11,6 +11,7 @@ use crate::{
 use std::alloc::Global;
 use std::marker::Model;
 
+// Promise 2.4, part 3
 /// The bytes that are still to be read, which contracts see as that list.
 ///
 /// Each call reads a value from their front. After a fault it is not said where the cursor stands.

@@ -46,8 +46,8 @@ pub fn encode_peer(alloc: Global, v: &PeerRecord, out: &mut Octets) -> Result<()
 /// A fault is told at the length of the longest front of the bytes that some text begins with.
 pub fn decode_body(alloc: Global, bytes: &[u8]) -> Result<(Body, usize), RecordFault>
     ensures ok { IfOk result (λ found. Begins body_grammar found.0 found.1 bytes.now) }
-    // Promise 2.8: They are decoded exactly where a prefix of the bytes is a text, and else the
-    //   exact place is told where the bytes are bad
+    // Promise 2.8 [clauses ok bad]: They are decoded exactly where a prefix of the bytes is a text,
+    //   and else the exact place is told where the bytes are bad
     ensures bad { IfErr result (λ fault. IsFaultOf body_grammar bytes.now fault) }
 {
     let mut from = Cursor::new(bytes);
@@ -68,7 +68,7 @@ pub fn decode_body(alloc: Global, bytes: &[u8]) -> Result<(Body, usize), RecordF
 /// A fault is told at the length of the longest front of the bytes that some text begins with.
 pub fn decode_peer(alloc: Global, bytes: &[u8]) -> Result<(PeerRecord, usize), RecordFault>
     ensures ok { IfOk result (λ found. Begins peer_grammar found.0 found.1 bytes.now) }
-    // Promise 2.8, part 2
+    // Promise 2.8, part 2 [clauses ok bad]
     ensures bad { IfErr result (λ fault. IsFaultOf peer_grammar bytes.now fault) }
 {
     let mut from = Cursor::new(bytes);

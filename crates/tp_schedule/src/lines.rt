@@ -76,24 +76,24 @@ impl Lines {
     /// 12,288 bytes past the start of a line that it answers.
     pub fn next<S: Source>(&mut self, source: &mut S) -> Result<Option<&[u8]>, LinesFault>
         // Promise 2.26 [clauses line leaves]: A schedule out of a source that tells its bytes is
-        //   handed out line by line, as the definitions cut them
-        // Promise 2.27 [clauses line leaves]: A line is `Long` exactly past 8,192 bytes, and
+        //   handed out line by line, as the definitions cut them, up to the first fault
+        // Promise 2.27 [clauses line leaves]: A line of it is `Long` exactly past 8,192 bytes, and
         //   `Limit`, which goes before, exactly where byte 1,048,577 stands in the line or in its
-        //   end
+        //   end; unless the source fails in the line, or a fault came before
         ensures line { IsFor (answer self.old) (together self.old.held (S.left source.old)) (shown result) }
         ensures few { IfOk result (λ line. IfSome line (λ l. length l.now ≤ 8192)) }
         ensures again { (f : LinesFault) → self.old.fault ≡ Some f → result ≡ Err f }
         ensures unread { (f : LinesFault) → self.old.fault ≡ Some f → source.new ≡ source.old }
-        // Promise 2.28 [clauses count risen again unread]: A fault of reading a line comes only
-        //   where the source's count rose, with the count; after a fault comes the same one, and
-        //   nothing is read
+        // Promise 2.28 [clauses count risen again unread]: A fault of reading a line first comes
+        //   only where the source's count rose, with the count; after a fault comes the same one,
+        //   and nothing is read
         ensures count { (n : ℕ) → self.old.fault ≡ None → result ≡ Err (LinesFault.ReadFault n) → n ≡ S.fault_count source.new }
         ensures risen { (n : ℕ) → self.old.fault ≡ None → result ≡ Err (LinesFault.ReadFault n)
             → HasRisen (S.fault_count source.old) (S.fault_count source.new) }
         ensures kept { S.fault_count source.old ≤ S.fault_count source.new }
         // Promise 2.29: At most 12,288 bytes are read past the start of a line that is handed out,
         //   or past the end of one that is too long or passes the limit; of one in which the source
-        //   fails its end is not read
+        //   fails the line feed is not read
         ensures ahead { self.old.fault ≡ None → IsAhead (together self.old.held (S.left source.old)) (S.left source.new) (shown result) }
         ensures* leaves { sem 𝓛 (Rests the_row self.entry (λ new. Leaves self.old (S.left source.old) (shown result) new (S.left source.new))) }
     {

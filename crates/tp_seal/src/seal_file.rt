@@ -146,7 +146,7 @@ impl<D: Disk> SealFile<D> {
 
     /// Lets a command at the log that another disk holds, unless the log is not the one that was sealed, or is to be made anew and has
     /// records. The log is synced, so that no seal is of bytes which a crash takes away. One that is to grow is sealed as it is; of one
-    /// that is to be shortened a seal of nothing is put.
+    /// that is to be shortened a seal of nothing is put. Where it is not let at it nothing is said of the seals: they are thrown away.
     pub fn admit<L: Disk>(&mut self, alloc: Global, duty: Duty, log: &mut L) -> Result<(), Refusal>
         // Promise 25.3 [clauses holds named settled same]: Where there is a seal, a command is let
         //   at a log only where the log begins with what was sealed and, where the command adds
@@ -174,7 +174,8 @@ impl<D: Disk> SealFile<D> {
     }
 
     /// Seals the log that another disk holds, after a command that did this to it. A log that was made or shortened has the name
-    /// that it had. A seal is never put in the place of one of more bytes.
+    /// that it had. A seal is never put in the place of one of more bytes. After a fault nothing is said of the seals: they are
+    /// thrown away.
     pub fn renew<L: Disk>(
         &mut self,
         alloc: Global,

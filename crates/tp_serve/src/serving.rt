@@ -27,8 +27,10 @@ const MOST_EVENTS: u64 = 1_000_000;
 /// Once more bytes than these wait, they are written before the next event.
 const MOST_WAITING: usize = 65_536;
 
-// Promise 13.8: What waits is written only where forcing the records of its events was answered Ok
-/// Writes the answers that wait, once the records of their events were forced; or stops with why they were not.
+// Promise 13.8: Of what waits nothing is written unless the answer of forcing, which is handed in,
+//   is Ok
+/// Writes the answers that wait, where forcing the records of their events has answered Ok; or stops with what it answered.
+/// After a stop `waiting` is thrown away.
 pub fn write_settled<K: Sink>(
     settled: Result<(), ForceFault>,
     waiting: &mut Octets,
@@ -168,17 +170,18 @@ pub fn serve<S: Source, K: Sink, D: Disk>(
     sink: &mut K,
     disk: D,
 ) -> (D, Result<(), Stop>)
-    // Promise 13.1: What is written for the frames of events, how it ends and which log is left are
-    //   those of the definitions: the outputs of each event and Over, up to the first frame that is
-    //   bad or passes a limit
+    // Promise 13.1: On a log in order, unless the outside fails or memory runs out, what is written
+    //   for the frames of events, how it ends and which log is left are those of the definitions:
+    //   the outputs of each event and Over, up to the first frame that is bad or passes a limit
     // Promise 13.2: Where the outside fails or memory runs out, a prefix of that is written
     // Promise 13.3: A crash at any moment from the first sync on leaves the log on which the site
-    //   began, or the log of the run on the first so many events: at least those of which a byte
-    //   was written. Of a log that is foreign it says only that it reads as foreign
-    // Promise 13.4: A crash at the end, however the run ended, leaves such a log with every event
-    //   of whose outputs a byte was written
-    // Promise 13.5: Where the source fails, each frame that was read whole was answered; on Ok it
-    //   was read to its end
+    //   began, or the log of the run on the first so many events. Of a log that is foreign only
+    //   what is read of it at the end is told: what a start leaves
+    // Promise 13.4: A crash at the end, however the run on a log in order ended, leaves such a log
+    //   with every event of whose outputs a byte was written
+    // Promise 13.5: Where the source fails, the event of each frame that was read whole has
+    //   happened, and is in the log that a crash at the end leaves; on Ok the source was read to
+    //   its end
     ensures serves { (s : Story) → D.told disk ≡ Some s → IsFile (seen s)
         → Serves name (record {
           told = s;

@@ -18,6 +18,7 @@ use tp_outside::Disk;
 use tp_turns::{Pass, Turns};
 
 // Promise 5.7: Without memory a share tells what it told before
+// Promise 5.3, part 2
 /// A keeper of the records of one log, beside others. It keeps its own receipts.
 ///
 /// It counts one fault once its stake is spent, and none before.
@@ -73,13 +74,12 @@ impl<D: Disk, L: Stood, M: Ledger> SharedLog<D, L, M> {
 impl<'a, D: Disk, R: Wait + Sync, L: Stood, M: Ledger> LogShare<'a, D, R, L, M> {
     ghost use Rattle.tp_shared_log.specs.Shares.{stake_of};
 
-    /// Gives back both shares, and the receipts. The amount of the first is their number; that of the second is 0 exactly
-    /// where this share answered `Full`, `DiskFault` or `Shut`, else 1.
+    /// Gives back both shares, and the receipts. The amount of the first is their number; that of the second is 0 where this
+    /// share answered `Full`, `DiskFault` or `Shut`.
     pub fn close(self) -> (Share<L>, Share<M>, Receipts)
         // Promise 5.2: A share counts its receipts, and nothing else
         ensures part { (result.0.parts ≡ self.entry.parts) × (result.0.amount ≡ length self.entry.receipts) }
-        // Promise 5.3: `Full`, `DiskFault` and `Shut` come of a share only with its stake spent
-        //   under the lock, and from then on it answers so without the lock
+        // Promise 5.3: A share that answered `Full`, `DiskFault` or `Shut` gives back a spent stake
         ensures stake { (result.1.parts ≡ self.entry.stake_parts) × (result.1.amount ≡ stake_of self.entry.spent) }
         ensures receipts { result.2 ≡ self.entry.receipts }
     {
@@ -100,6 +100,7 @@ impl<'a, D: Disk, R: Wait + Sync, L: Stood, M: Ledger> LogShare<'a, D, R, L, M> 
         ensures part { (result.0.parts ≡ self.entry.parts) × (result.0.amount ≡ length self.entry.receipts) }
         ensures stake { (result.1.parts ≡ self.entry.stake_parts) × (result.1.amount ≡ stake_of self.entry.spent) }
         ensures receipts { result.2 ≡ self.entry.receipts }
+        // Promise 5.11, part 2
         ensures slip { result.3 ≡ record { of = self.entry.of; receipts = self.entry.receipts } }
     {
         let LogShare {

@@ -86,8 +86,9 @@ impl<D: Disk, L: Stood, M: Ledger> SharedLog<D, L, M> {
         ensures wide { result.0.wide ≡ L.wide }
         // Promise 5.5: A journal that is shut has counted a fault since it was put under the lock
         ensures shut { ShutRose L.faults result.0.shut (D.fault_count result.0.disk) }
-        // Promise 5.6: A crash at the close leaves the journal's records, of a shut one those that
-        //   stood and the first of the others; so did a crash at any earlier moment
+        // Promise 5.6: A crash at the close leaves the journal's records, or, of a shut one, those
+        //   that stood and the first so many of the others; one at any moment since the journal was
+        //   put under the lock left the first so many of them, at least those that stood
         ensures images { Leaves L.story (length L.stood) result.0.wide result.0.list result.0.shut (D.told result.0.disk) }
         // Promise 5.4 [clauses spent unfit]: A spent stake means a journal that is shut, or a
         //   record that had no room

@@ -61,14 +61,15 @@ impl Intake {
     /// the same stop and reads nothing. Every call is to be given the same source, of which no more than 10,241 bytes are
     /// read and not handed out.
     pub fn next<S: Source>(&mut self, alloc: Global, source: &mut S) -> Result<Option<Octets>, Stop>
-        // Promise 2.30 [clauses body leaves]: The bodies of a stream of frames out of a source that
-        //   tells its bytes are handed out one by one, with none exactly where it ends between two
-        //   frames, and `Short` and `Length` where the definitions end it
+        // Promise 2.30 [clauses body leaves]: Out of a source that tells its bytes, until it fails,
+        //   the bodies of a stream of frames are handed out one by one, with none exactly where the
+        //   stream ends between two frames, and `Short` and `Length` where the definitions end it
         ensures body { IsFor (answer self.old) (bytes_left self.old (S.left source.old)) result }
         ensures leaves { Leaves self.old (S.left source.old) result self.new (S.left source.new) }
-        // Promise 2.32 [clauses stops cut_off again unread]: A fault of reading a frame comes only
-        //   where the source's count rose; no byte is lost then, and each frame that was read whole
-        //   was handed out
+        // Promise 2.32 [clauses stops cut_off again unread]: A fault of reading a frame first comes
+        //   only where the source's count rose, with the count; no byte is lost then, and each
+        //   frame that was read whole was handed out. After it comes the same one, and nothing is
+        //   read
         ensures stops { self.old.stop ≡ None → IfErr result (IsFrameStop (suc self.old.at) (S.fault_count source.old) (S.fault_count source.new)) }
         ensures cut_off { (n : ℕ) → self.old.stop ≡ None → result ≡ Err (Stop.ReadFault n)
             → IsCutOff self.old (S.left source.old) self.new (S.left source.new) }

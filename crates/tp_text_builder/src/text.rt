@@ -7,6 +7,7 @@ use std::marker::Model;
 use std::mem;
 use tp_names::{NoMemory, Octets};
 
+// Promise 2.41, part 2
 /// A text after bytes that were there before. Contracts see it as those bytes and the whole text, or none once memory was wanting.
 #[derive(Drop)]
 pub struct Text {

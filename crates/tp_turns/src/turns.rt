@@ -142,6 +142,7 @@ impl<T: Lists<I>, I> Turns<T, I> {
         requires has { (seen : List I) × (more : List I) × (c : Claimed I) × (cs : List (Claimed I)) × (x : T) × (T.list x ≡ seen ++ more)
             × (pass.old.me ≡ (knows 1 seen (c ∷ cs), (0, x) ∷ [])) }
         ensures id { pass.new.table_id ≡ pass.old.table_id }
+        // Promise 5.12, part 2
         ensures gave { (x : T) → pass.old.me.1 ≡ (0, x) ∷ [] → pass.new.me ≡ (idle (grown pass.old.me.0.claims (more_in T.list pass.old.me.0 x)), []) }
     {
         self.table.shared.store::<Give>(pass, 0, 0);
@@ -152,6 +153,7 @@ impl<T: Lists<I>, I> Turns<T, I> {
         requires pass { pass.old.table_id ≡ self.now.table.shared.table_id }
         requires other { (other.table_id ≡ self.now.table.shared.table_id) × (other.me.0.stage ≡ 0) × (other.me.1 ≡ []) }
         ensures id { pass.new.table_id ≡ pass.old.table_id }
+        // Promise 5.12, part 3
         ensures both { pass.new.me ≡ (both_of pass.old.me.0 other.me.0, pass.old.me.1) }
     {
         self.table.shared.join_seat::<Both>(pass, other);
@@ -166,8 +168,9 @@ impl<T: Lists<I>, I> Turns<T, I> {
         value
     }
 
-    // Promise 5.12: What threads that take a value in turn have put there is an interleaving of what
-    //   each of them put, where that is as much
+    // Promise 5.12: What a value lists that threads take in turn is an interleaving of what the
+    //   claims of the last pass list, where that is as much; what a pass puts into the value stands
+    //   under its first claim, and two passes are joined with all their claims
     /// The same. If as much stands under the pass's claims as the value lists, then this is an interleaving of what stands there.
     pub fn into_claimed<R: Wait>(self, rt: &R, mut pass: Pass<T, I>) -> T
         requires { (pass.table_id ≡ self.table.shared.table_id) × (pass.me.1 ≡ []) }

@@ -27,7 +27,7 @@ impl Lane {
         }
     }
 
-    /// Puts a step after the others.
+    /// Puts a step after the others. Without memory the lane is thrown away.
     pub fn push(&mut self, step: Step) -> Result<(), NoMemory>
         ensures steps { OnOk result (self.new.steps.items ≡ self.old.steps.items ++ step ∷ []) }
         ensures name { self.new.name ≡ self.old.name }

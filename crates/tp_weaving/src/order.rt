@@ -136,7 +136,7 @@ fn woven_of(lanes: &[Lane]) -> Woven
 //   deployment, no other reaches a step more of any site, and that frame tells the first step of
 //   its site that none reaches
 /// Puts the steps of the sites into one order, in which what a step takes was said before; or names a frame where none goes on, the first
-/// one of its site that no order reaches.
+/// one of its site that no order reaches. Without memory the lanes are thrown away.
 pub fn weave(alloc: Global, lanes: &mut [Lane]) -> Result<Woven, NoMemory>
     ensures { IfOk result (λ woven. (qs : List PlaceValue) (rs : List Record) → AreApart rs → AreLanes qs rs lanes.old → Ends qs rs woven) }
 {

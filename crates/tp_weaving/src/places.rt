@@ -55,7 +55,7 @@ impl Places {
     }
 
     /// Another node stands at that site, under the node of that number where one is given. It tells whether its number is new, and its
-    /// superior there.
+    /// superior there. Without memory the places are thrown away.
     pub fn add(&mut self, node: u16, under: Option<u16>, site: SiteName) -> Result<bool, NoMemory>
         ensures { IfOk result (λ fits. Adds self.old node under site fits self.new) }
     {

@@ -16,17 +16,19 @@ use std::alloc::{AllocError, Global};
 use tp_names::SiteName;
 
 /// The command that the words after the program's name ask for. Plain words are always taken: the word
-/// of a command, and then options, each once at most, as its name and a value in its range.
+/// of a command, and then options, each once at most, as its name and a value in its range, a number in decimal without
+/// leading zeros.
 pub fn read(alloc: Global, words: &[&str]) -> Result<Command, WordsFault>
-    // Promise 2.9: The words of a command line ask for the command that clap finds in them
+    // Promise 2.9: The command that the words of `tpnode` are taken for is the one that clap finds
+    //   in them, with the options that it uses
     ensures ok { IfOk result (Asks (said (map (λ w. w.now) words.now))) }
     // Promise 2.10: `Usage` comes only where clap refuses the words for another cause than memory,
     //   the command is unknown, or the name is no site's
     ensures usage { result ≡ Err WordsFault.Usage → is_line (said (map (λ w. w.now) words.now)) ≡ false }
 
     // Plain words are always taken.
-    // Promise 2.11: Plain words are always taken: a command, and options of a name and a value,
-    //   each at most once and in its range
+    // Promise 2.11: Plain words are always taken: a command, and then options, each at most once,
+    //   as its name and a value in its range, a number in decimal without leading zeros
     ensures plain { (word : List ℕ) (settings : List Setting) → IsPlain word settings
         → map (λ w. w.now) words.now ≡ word ∷ settings_typed settings
         → MatchResult result (IsAsked (with_settings (alone word) settings)) (λ fault. fault ≡ WordsFault.NoMemory) }

@@ -71,7 +71,8 @@ fn restart_node(
     Ok(())
 }
 
-/// The nodes of the site stop and are declared again, in order, at the site that has started again.
+/// The nodes of the site stop and are declared again, in order, at the site that has started again. Without memory nothing is
+/// said of the nodes and of the site: the world has ended, and they are thrown away.
 pub fn restart_nodes(
     alloc: Global,
     nodes: &mut Nodes,

@@ -49,6 +49,7 @@ pub fn site_place(sites: &[SiteSlot], name: &SiteName) -> Option<usize>
 }
 
 /// An event of the node at that address. The entry of it is told beside the answer.
+/// Where it fails nothing is said of the sites: the world has ended, and they are thrown away.
 #[inline(always)]
 pub fn play_at(
     alloc: Global,
@@ -69,6 +70,7 @@ pub fn play_at(
 }
 
 /// A frame that is handed over to the node at that address. The entry of that is told beside the answer.
+/// Where it fails nothing is said of the sites: the world has ended, and they are thrown away.
 #[inline(always)]
 pub fn arrive_at(
     alloc: Global,
