@@ -34,10 +34,10 @@ ghost use Rattle.tp_steps.specs.Undone.{IsPromptTurn};
 ghost use Rattle.tp_histories.specs.Undone.{is_left_undone};
 ghost use Rattle.tp_histories.specs.Traces.{IsTraced, sent_on, accepted_on};
 
-// Promise 12.8: A live link counts what was sent and taken with its pair, and with a mark of the
-//   node's own that is not yet drawn nothing was sent or taken on an association
-/// In every legal history a live link counts what was sent and taken with its pair of marks, and with a mark of the node's own
-/// that is not yet drawn nothing was sent or taken on an association.
+// Promise 12.8: A live link counts what was sent and taken with its pair, and with a pair in which
+//   the mark that stands for the node has its number and is not yet drawn nothing was sent or taken
+/// In every legal history a live link counts what was sent and taken with its pair of marks, and with a pair in which the mark
+/// that stands for the node has its number and is not yet drawn nothing was sent or taken.
 pub fn traces()
     ensures counts { (o : Origin) (up : Option Addr) (h : List Entry) (p : ℕ) (x y : Mark) (s t : ℕ) → IsGrown o up h
         → link_with (digest o h).arcs p ≡ Live x y s t
@@ -109,11 +109,11 @@ pub fn answers_are_asked_for()
 {}
 
 // Promise 12.9: No two arcs lead to one node; the mark that stands for the node in a pair has the
-//   node's number; and the mark of an association that it opened with a subordinate is on no other
-//   arc to one, nor was anything sent to another with it
+//   node's number; and the superior's mark of an arc to a subordinate is that of no other arc to
+//   one, nor was anything sent to another subordinate with it in that place of a pair
 /// In every legal history no two arcs lead to one node and none is idle; the mark that stands for the node in a pair has its
-/// number, as in each pair on which it sent; and the mark of an association that it opened with one subordinate is on the arc
-/// to no other, nor was anything sent to another with it.
+/// number, as in each pair on which it sent; and the superior's mark of an arc to one subordinate is that of the arc to no
+/// other, nor was anything sent to another with it in that place of a pair. The subordinate's mark is what the peer says.
 pub fn ends_are_told_apart()
     ensures arcs { (o : Origin) (up : Option Addr) (h : List Entry) → IsGrown o up h → are_separate (digest o h).arcs ≡ true }
     ensures marks { (o : Origin) (up : Option Addr) (h : List Entry) → IsGrown o up h → IsAlone o.who up (digest o h) h }

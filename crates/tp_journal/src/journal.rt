@@ -65,8 +65,8 @@ impl<D: Disk> Journal<D> {
         //   cut short; what it leaves is told to the byte
         ensures started { IfOk result (λ j. Starts (D.told disk) (D.told j.disk) j.gate (bodies_in j) × (j.shut ≡ None)) }
         ensures texts { IfOk result (λ j. AllByRecursion (HasText j.wide) j.list) }
-        // Promise 3.12: A start that ends Ok over a log whose records begin the file makes one
-        //   changing call, the sync, of a disk that counts its calls
+        // Promise 3.12: Over a disk with a fuse, a start that ends Ok over a log whose records begin
+        //   the file makes one changing call, the sync
         ensures passes { IfOk result (λ j. SyncsAlone (D.told disk) (D.fuse disk) (D.fuse j.disk)) }
         ensures kept { IfOk result (λ j. D.fault_count disk ≤ D.fault_count j.disk) }
         ensures refused { IfErr result (λ e. RefusesStart record_body (D.told disk) (D.told e.0) (D.fault_count disk) (D.fault_count e.0) e.1) }

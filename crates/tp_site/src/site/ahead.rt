@@ -13,6 +13,7 @@ use tp_names::NoMemory;
 use tp_outside::Disk;
 
 impl<D: Disk> Site<Journal<D>> {
+    // Promise 11.3, part 7 [clauses ok]
     // Promise 11.16: A site goes on over the same log, which notes records from then on;
     //   `settle_log` forces all that was noted at once, leaves the site where it stood, and shuts
     //   it where the disk fails; of a log that was shut before it forces nothing
@@ -49,6 +50,7 @@ impl<D: Disk> Site<Journal<D>> {
 }
 
 impl<K: Settles> Site<K> {
+    // Promise 11.3, part 6 [clauses nodes ok err]
     // Promise 11.16, part 2
     /// Forces all that is noted. The nodes stay as they are; a fault of the disk shuts the site. Where nothing is to come, what
     /// is after the log is cut off.

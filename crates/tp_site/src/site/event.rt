@@ -131,6 +131,7 @@ impl<K: Keeper> Site<K> {
     /// disk every event is answered `Shut`. Where the site stands as its events leave it and the keeper's records follow each
     /// other, they do so after it. A user's request is refused also without memory, but where numbers are spent.
     pub fn event(&mut self, alloc: Global, event: &Event) -> Result<Outputs, SiteFault>
+        // Promise 11.3, part 5 [clauses plays shut]
         // Promise 11.4: At a site that is not shut, an event that comes as octets is refused by 25
         //   exactly where they are not the whole text of one record, else by 23 where it is for
         //   another site, and else is the event of the node
@@ -152,7 +153,6 @@ impl<K: Keeper> Site<K> {
         //   than spent numbers is refused also where there is no memory
         ensures plain { (n : ℕ) (r : Asks) (x : Refusal) → event.now ≡ Given.Do n r → self.old.shut ≡ None
             → refused_plainly (who_at self.old.nodes n) (known_at self.old n) (Do r) ≡ Some x → result ≡ Err (SiteFault.Refused (number_of x)) }
-        // Promise 11.3, part 5
         ensures shut { (faults : ℕ) → self.old.shut ≡ Some faults → result ≡ Err (SiteFault.Shut faults) }
     {
         if let Some(faults) = self.shut {
