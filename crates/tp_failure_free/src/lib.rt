@@ -26,7 +26,8 @@ pub fn an_open_branch_has_a_live_arc()
     ensures superior { (t : Aaid) (o : Origin) (up : Option Addr) (h : List Entry) → IsUnfailed t o up h → SuperiorLive t o h }
 {}
 
-// Promise 12.31: That a branch has answered or left, or has ended, stays while the tree is current
+// Promise 12.31: That a branch has answered or left stays while the tree is current, and so does
+//   that it has ended or left
 /// Of a tree in which nothing failed a branch that is counted or has left stays so, and so does one that has ended or left, while
 /// the tree is current.
 pub fn what_is_noted_of_a_branch_stays()

@@ -9,8 +9,8 @@ use tp_model::{Action, Line, LineRequest};
 use tp_names::{NoMemory, Octets, Outcome, SiteName};
 use tp_text_builder::Text;
 
-// Promise 2.21: A line of a schedule, a line of a transcript, a log record, a key and an identifier
-//   are written to the byte
+// Promise 2.21: A line of a schedule, a line of a transcript, the words of a log record, a key and
+//   the identifier of a tree are written to the byte
 /// Puts the line's text at the end of `out`, without an end. Without memory `out` stays as it was.
 pub fn write_line(alloc: Global, l: &Line, out: &mut Octets) -> Result<(), NoMemory>
     ensures ok { OnOk result (out.new ≡ out.old ++ line_text l.now) }

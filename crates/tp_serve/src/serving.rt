@@ -179,9 +179,9 @@ pub fn serve<S: Source, K: Sink, D: Disk>(
     //   what is read of it at the end is told: what a start leaves
     // Promise 13.4: A crash at the end, however the run on a log in order ended, leaves such a log
     //   with every event of whose outputs a byte was written
-    // Promise 13.5: Where the source fails, the event of each frame that was read whole has
-    //   happened, and is in the log that a crash at the end leaves; on Ok the source was read to
-    //   its end
+    // Promise 13.5: Where a fault of the source ends the run, the event of each frame that was read
+    //   whole has happened, and is in the log that a crash at the end leaves; on Ok the source was
+    //   read to its end
     ensures serves { (s : Story) → D.told disk ≡ Some s → IsFile (seen s)
         → Serves name (record {
           told = s;

@@ -45,7 +45,7 @@ pub fn marks_of_branches()
 // Promise 12.4: What a transaction takes is heeded: where it does not roll, a vote or a leaving
 //   that is in phase finds it active and is noted; an order that is in phase is carried out in
 //   ready; in committing a branch that says or replies Done has ended after it, or had left. That a
-//   branch has answered or has ended stays
+//   branch has answered stays, and that it has ended or left
 /// What a transaction takes is heeded, by every event. Where it does not roll, a branch's Ready or Left that is not out of
 /// phase is taken in active, and the branch is counted or has left after it; the superior's order that is not out of phase
 /// is not taken in active, and in ready it is carried out; in committing a branch that says or replies that it is done has
