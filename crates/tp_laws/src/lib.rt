@@ -114,6 +114,7 @@ pub fn a_clear_root_has_committed_below()
     ensures { (es : List Happening) → ReportFree (run es) }
 {}
 
+// Promise 16.37, part 2 [clauses nodes]
 // Promise 16.38: In such a tree every staying node logged Commit and was complete with no report
 //   itself, and the closing line says that all agree on commitment
 /// In every run, in a tree whose root's user was told that the commitment is complete with no report, every node that did not
