@@ -56,9 +56,11 @@ pub fn records_are_paired()
     ensures { (o : Origin) (up : Option Addr) (h : List Entry) → o.start.records ≡ [] → IsGrown o up h → IsPaired o up h }
 {}
 
-// Promise 12.29: A tree's phase is what was logged and what rolled, never both
-/// In every legal history that enters each tree once, the phase of a tree is what its records and its rolling say, and
-/// nothing is both committed and rolled back.
+// Promise 12.29: While a tree is current it is committing exactly where Commit was logged, rolling
+//   exactly where it rolled, and not active where Ready was logged; in none both Commit was logged
+//   and it rolled
+/// In every legal history that enters each tree once, a tree that is current is committing exactly where Commit was logged,
+/// rolling exactly where it rolled, and not active where Ready was logged; and nothing is both committed and rolled back.
 pub fn fates_are_one()
     ensures { (o : Origin) (up : Option Addr) (h : List Entry) (t : Aaid) → o.start.records ≡ [] → IsGrown o up h → IsOnce o h → IsFated o h t }
 {}
