@@ -196,7 +196,7 @@ pub fn serve<S: Source, K: Sink, D: Disk>(
     ensures stops { IfErr result.1
         (IsServeStop (D.fault_count disk) (D.fault_count result.0) (S.fault_count source.old) (S.fault_count source.new)
         (K.fault_count sink.old) (K.fault_count sink.new)) }
-    // Promise 13.6 [clauses foreign before]: A log that is foreign, and a boot number or room for
+    // Promise 13.6 [clauses serves foreign before]: A log that is foreign, and a boot number or room for
     //   the boot that is not there, come before every frame: nothing is read, and nothing written
     ensures foreign { (at : ℕ) → result.1 ≡ Err (TheStop.Foreign at) → (source.new ≡ source.old) × (sink.new ≡ sink.old) }
     ensures before { (what : Limits) → result.1 ≡ Err (TheStop.Limit what 0) → (source.new ≡ source.old) × (sink.new ≡ sink.old) }

@@ -242,7 +242,7 @@ pub fn transact<S: Source, K: Sink, D: Disk>(
         (IsServeStop (D.fault_count disk) (D.fault_count result.0) (S.fault_count source.old) (S.fault_count source.new)
         (K.fault_count sink.old) (K.fault_count sink.new)) }
     ensures foreign { (at : ℕ) → result.1 ≡ Err (TheStop.Foreign at) → (source.new ≡ source.old) × (sink.new ≡ sink.old) }
-    // Promise 14.11 [clauses before foreign]: At a limit at 0, and where the log is foreign,
+    // Promise 14.11 [clauses transacts before foreign]: At a limit at 0, and where the log is foreign,
     //   nothing was read of the source, and nothing written to the sink
     ensures before { (what : Limits) → result.1 ≡ Err (TheStop.Limit what 0) → (source.new ≡ source.old) × (sink.new ≡ sink.old) }
     ensures read { S.fault_count source.old ≤ S.fault_count source.new }
