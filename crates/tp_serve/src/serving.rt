@@ -177,8 +177,8 @@ pub fn serve<S: Source, K: Sink, D: Disk>(
     // Promise 13.3: A crash at any moment from the first sync on leaves the log on which the site
     //   began, or the log of the run on the first so many events. Of a log that is foreign only
     //   what is read of it at the end is told: what a start leaves
-    // Promise 13.4: A crash at the end, however the run on a log in order ended, leaves such a log
-    //   with every event of whose outputs a byte was written
+    // Promise 13.4: A crash at the end, however a run on a log in order ended after the first sync,
+    //   leaves such a log with every event of whose outputs a byte was written
     // Promise 13.5: Where a fault of the source ends the run, the event of each frame that was read
     //   whole has happened, and is in the log that a crash at the end leaves; on Ok the source was
     //   read to its end
