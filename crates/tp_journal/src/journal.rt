@@ -148,6 +148,7 @@ impl<D: Disk> Journal<D> {
             (receipt_of rec.now result) (standing_of self.new (D.fault_count self.new.disk) (D.told self.new.disk) (D.fuse self.new.disk)) }
         ensures order { IfErr result (ComesInOrder self.old rec.now) }
         ensures untouched { IfErr result (KeepsDisk self.old.disk self.new.disk) }
+        // Promise 25.5, part 3
         ensures front { LeavesFront self.old.gate (D.told self.old.disk) (D.told self.new.disk) }
     {
         if let Some(faults) = self.log.shut() {
