@@ -46,7 +46,7 @@ pub fn drive<R: Threads + Wait + Sync, D: Disk + Send, G: Gate + Sync>(
     // Promise 6.8 [clauses images images_left]: Where the disk tells its story, a crash since the
     //   boot left the boot and the first of the records after it; one at the end leaves all of
     //   them, of a log that is shut the boot and the first of the others
-    // Promise 6.9 [tp_drive/specs/Drives.antt, clauses images images_left open]: The records that
+    // Promise 6.9 [tp_drive/specs/Drives.antt, clauses images images_left open fails]: The records that
     //   the site started on follow one another, the log stays of its version, and on Ok it is open
     ensures images { IfOk result (λ d. LeavesBooted (λ j. standing_of j (D.fault_count j.disk) (D.told j.disk) (D.fuse j.disk)) journal name
         (D.told d.journal.disk) d.journal) }
