@@ -11,6 +11,7 @@ pub fn any_pieces()
     ensures { (steps : List Step) (f : Fed) → Leads fresh steps f → IsSplit (fed_in steps) (bodies_in steps) f }
 {}
 
+// Promise 2.12, part 4
 /// Two readers of one stream that have no more to hand out have handed out the same bodies, and
 /// have the same pending.
 pub fn one_reading()

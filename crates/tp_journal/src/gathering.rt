@@ -15,7 +15,7 @@ use crate::lengths::text_len;
 use crate::log::{Log, MOST_BYTES};
 use crate::records::{Records, write_piece};
 use crate::shelf::Shelf;
-use crate::{Coming, ForceFault, Journal, Keeper, Receipt, Settles, tape};
+use crate::{ForceFault, Journal, Keeper, Receipt, Settles, tape};
 use std::alloc::{AllocError, Global};
 use std::marker::Model;
 use tp_logrec::LogRec;
@@ -334,10 +334,11 @@ impl<D: Disk> Gathering<D> {
 }
 
 impl<D: Disk> Settles for Gathering<D> {
-    fn settle(&mut self, coming: Coming) -> Result<(), ForceFault> {
-        match coming {
-            Coming::More => self.settle_ahead(),
-            Coming::Nothing => self.settle_last(),
+    fn settle(&mut self, last: bool) -> Result<(), ForceFault> {
+        if last {
+            self.settle_last()
+        } else {
+            self.settle_ahead()
         }
     }
 }

@@ -64,6 +64,7 @@ impl<D: Disk> Journal<D> {
         // Promise 3.11: A start that ends Ok has read what the bytes stand for, and ended what was
         //   cut short; what it leaves is told to the byte
         ensures started { IfOk result (λ j. Starts (D.told disk) (D.told j.disk) j.gate (bodies_in j) × (j.shut ≡ None)) }
+        // Promise 4.1, part 2 [clauses started texts refused]
         ensures texts { IfOk result (λ j. AllByRecursion (HasText j.wide) j.list) }
         // Promise 3.12: A start that ends Ok over a log whose records begin the file makes one
         //   changing call, the sync, of a disk that counts its calls

@@ -61,15 +61,6 @@ pub trait Keeper {
         ensures { result ≡ (standing self.now).wide };
 }
 
-/// What is to come after a settle.
-#[derive(Clone, Copy, Debug, PartialEq, Eq)]
-pub enum Coming {
-    /// More records: room may be kept for them in the file.
-    More,
-    /// Nothing: the file ends with the log.
-    Nothing,
-}
-
 // Promise 3.23 [tp_journal/specs/Settling.antt]: A keeper that notes says of the images of a settle
 //   and of its faults what 3.21 and 3.22 say, but for the bytes of the file, also to who knows of
 //   it no more than the trait; no record that is noted changes what is on the disk
@@ -78,7 +69,7 @@ pub trait Settles: Keeper {
     ghost use Rattle.tp_journal.specs.Settling.{SettlesTo};
 
     /// Forces all that is noted, and wants no memory for it. Where the disk fails the keeper is shut, and tells what was noted.
-    /// Where nothing is to come it cuts off what it has written after its log.
-    fn settle(&mut self, coming: Coming) -> Result<(), ForceFault>
+    /// What it has written after its log it cuts off where this is the last settle.
+    fn settle(&mut self, last: bool) -> Result<(), ForceFault>
         ensures { SettlesTo (Self.standing self.old) result (Self.standing self.new) };
 }

@@ -27,7 +27,7 @@ pub use faults::{CompactFault, ForceFault, StartFault};
 pub use gates::Gates;
 pub use gathering::Gathering;
 pub use journal::{Journal, format};
-pub use keeper::{Coming, Keeper, Settles};
+pub use keeper::{Keeper, Settles};
 pub use laws::{
     a_log_stands_for_its_records, a_log_stands_for_one_list, foreign_bytes_stand_for_nothing,
 };

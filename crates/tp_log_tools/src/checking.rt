@@ -89,8 +89,8 @@ fn check_log<D: Disk, K: Sink>(
 /// Writes, as `show` does, each Damage of the disk's log that is the last record of its node and key, and answers how many
 /// there are.
 pub fn check<D: Disk, K: Sink>(alloc: Global, disk: D, sink: &mut K) -> (D, Result<u64, Stop>)
-    // Promise 4.4: `check` writes each Damage after which no record of its node and key comes, to
-    //   the byte, and answers their number
+    // Promise 4.4: Where it ends Ok, `check` has written each Damage after which no record of its
+    //   node and key comes, to the byte, and answers their number
     // Promise 4.6, part 2
     ensures checks { IfOk result.1
         (λ n. (s : Story) → D.told disk ≡ Some s → IsFile (seen s) → Checks (seen s) n (K.written sink.old) (K.written sink.new) (D.told result.0)) }

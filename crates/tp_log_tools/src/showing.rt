@@ -40,7 +40,8 @@ fn write_records<J: Keeper, K: Sink>(alloc: Global, log: &J, sink: &mut K) -> Re
 /// first record stands, after the start, that does not follow those before it; then, and where the disk fails, nothing is
 /// written.
 pub fn show<D: Disk, K: Sink>(alloc: Global, disk: D, sink: &mut K) -> (D, Result<(), Stop>)
-    // Promise 4.3: `show` writes each record of a log in order with its place, to the byte
+    // Promise 4.3: Where it ends Ok, `show` has written each record of a log in order with its
+    //   place, to the byte
     // Promise 4.6: Where `show` and `check` end Ok the disk has what a start leaves, to the byte
     ensures shows { OnOk result.1 ((s : Story) → D.told disk ≡ Some s → IsFile (seen s)
         → Shows (seen s) placed_texts (K.written sink.old) (K.written sink.new) (D.told result.0)) }

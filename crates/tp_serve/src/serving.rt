@@ -14,7 +14,7 @@ ghost use Rattle.tp_serve.specs.Serving.{EndsServing, IsEventsStop, Serves, IsSe
 use crate::answering::{answer, reply};
 use crate::starting::start;
 use std::alloc::Global;
-use tp_journal::{Coming, ForceFault, Gathering, Journal, Keeper, Settles};
+use tp_journal::{ForceFault, Gathering, Journal, Keeper, Settles};
 use tp_names::{NoMemory, Octets, SiteName};
 use tp_outside::{Disk, Sink, Source};
 use tp_records::Event;
@@ -57,13 +57,13 @@ fn settle<J: Settles, K: Sink>(
     site: &mut Site<J>,
     waiting: &mut Octets,
     sink: &mut K,
-    coming: Coming,
+    last: bool,
 ) -> Result<(), Stop>
     ensures settles { SettlesSite J.standing site.old site.new result waiting.old waiting.new (K.written sink.old) (K.written sink.new)
         (K.fault_count sink.old) (K.fault_count sink.new) }
     ensures kept { K.fault_count sink.old ≤ K.fault_count sink.new }
 {
-    let settled = site.settle_log(coming);
+    let settled = site.settle_log(last);
     write_settled(settled, waiting, sink)
 }
 
@@ -81,7 +81,7 @@ fn keep_up<J: Settles, K: Sink>(
     if ready && waiting.len() <= MOST_WAITING {
         return Ok(());
     }
-    settle(site, waiting, sink, Coming::More)
+    settle(site, waiting, sink, false)
 }
 
 // The same at the end, which is told where nothing else stops it.
@@ -95,7 +95,7 @@ fn finish<J: Settles, K: Sink>(
         (K.fault_count sink.old) (K.fault_count sink.new) }
     ensures kept { K.fault_count sink.old ≤ K.fault_count sink.new }
 {
-    match settle(site, waiting, sink, Coming::Nothing) {
+    match settle(site, waiting, sink, true) {
         Ok(()) => end,
         Err(stop) => Err(stop),
     }

@@ -21,7 +21,7 @@ use crate::admission::admit;
 use crate::answering::respond;
 use crate::frame::Frame;
 use std::alloc::Global;
-use tp_journal::{Coming, Journal, Keeper, Settles};
+use tp_journal::{Journal, Keeper, Settles};
 use tp_names::{NoMemory, Octets, SiteName};
 use tp_outside::{Disk, Sink, Source};
 use tp_serve::{start, write_settled};
@@ -40,13 +40,13 @@ fn settle<J: Settles, K: Sink>(
     face: &mut Face<J>,
     waiting: &mut Octets,
     sink: &mut K,
-    coming: Coming,
+    last: bool,
 ) -> Result<(), Stop>
     ensures settles { SettlesFace J.standing face.old face.new result waiting.old waiting.new (K.written sink.old) (K.written sink.new)
         (K.fault_count sink.old) (K.fault_count sink.new) }
     ensures kept { K.fault_count sink.old ≤ K.fault_count sink.new }
 {
-    let settled = face.settle_log(coming);
+    let settled = face.settle_log(last);
     write_settled(settled, waiting, sink)
 }
 
@@ -64,7 +64,7 @@ fn keep_up<J: Settles, K: Sink>(
     if ready && waiting.len() <= MOST_WAITING {
         return Ok(());
     }
-    settle(face, waiting, sink, Coming::More)
+    settle(face, waiting, sink, false)
 }
 
 // The same at the end, which is told where nothing else stops it.
@@ -78,7 +78,7 @@ fn finish<J: Settles, K: Sink>(
         (K.fault_count sink.old) (K.fault_count sink.new) }
     ensures kept { K.fault_count sink.old ≤ K.fault_count sink.new }
 {
-    match settle(face, waiting, sink, Coming::Nothing) {
+    match settle(face, waiting, sink, true) {
         Ok(()) => end,
         Err(stop) => Err(stop),
     }

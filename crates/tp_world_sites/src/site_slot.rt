@@ -243,6 +243,7 @@ impl SiteSlot {
     }
 
     /// An event of the node of that number. The entry of it is told beside the answer, where it has happened.
+    /// Without memory nothing is said of the site: the world has ended, and it is thrown away.
     pub fn play(
         &mut self,
         alloc: Global,
@@ -266,6 +267,7 @@ impl SiteSlot {
     }
 
     /// A frame that is handed over to the node of that number. The entry of that is told beside the answer.
+    /// Without memory nothing is said of the site: the world has ended, and it is thrown away.
     #[inline(always)]
     pub fn arrive(
         &mut self,

@@ -22,7 +22,7 @@ use crate::fault::FaceFault;
 use crate::stand::Stand;
 use std::alloc::Global;
 use std::marker::Model;
-use tp_journal::{Coming, ForceFault, Gathering, Journal, Keeper, Settles};
+use tp_journal::{ForceFault, Gathering, Journal, Keeper, Settles};
 use tp_names::NoMemory;
 use tp_outside::Disk;
 use tp_records::{Event, Outputs, Request};
@@ -260,14 +260,14 @@ impl<K: Keeper> Face<K> {
 impl<K: Settles> Face<K> {
     // Promise 14.12, part 2
     /// Forces all that its site has noted. The face stands where it stood; a fault of the disk shuts the log.
-    pub fn settle_log(&mut self, coming: Coming) -> Result<(), ForceFault>
+    pub fn settle_log(&mut self, last: bool) -> Result<(), ForceFault>
         ensures settles { SettlesTo (K.standing self.old.site.keeper) result (K.standing self.new.site.keeper) }
         ensures same { self.new ≡ record self.old { site = self.new.site } }
         ensures shut { OnOk result (self.new.site.shut ≡ self.old.site.shut) }
         ensures site { (mine : ℕ → Bool) (o : Opening) (gs : List Given) → IsAt K.standing mine o gs self.old.site → IsAt K.standing mine o gs self.new.site }
         ensures at { (o : Opening) (gs : List Given) (past : List Entry) → IsFaceAt K.standing o gs past self.old → IsFaceAt K.standing o gs past self.new }
     {
-        self.site.settle_log(coming)
+        self.site.settle_log(last)
     }
 }
 

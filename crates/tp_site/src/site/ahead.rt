@@ -8,7 +8,7 @@ ghost use Rattle.tp_site.specs.Faults.{shut_by};
 
 use crate::site::Site;
 use std::alloc::Global;
-use tp_journal::{Coming, ForceFault, Gathering, Journal, Settles};
+use tp_journal::{ForceFault, Gathering, Journal, Settles};
 use tp_names::NoMemory;
 use tp_outside::Disk;
 
@@ -50,9 +50,9 @@ impl<D: Disk> Site<Journal<D>> {
 
 impl<K: Settles> Site<K> {
     // Promise 11.16, part 2
-    /// Forces all that is noted. The nodes stay as they are; a fault of the disk shuts the site. Where nothing is to come, what
-    /// is after the log is cut off.
-    pub fn settle_log(&mut self, coming: Coming) -> Result<(), ForceFault>
+    /// Forces all that is noted. The nodes stay as they are; a fault of the disk shuts the site. What is after the log is cut
+    /// off by the last call.
+    pub fn settle_log(&mut self, last: bool) -> Result<(), ForceFault>
         ensures settles { SettlesTo (K.standing self.old.keeper) result (K.standing self.new.keeper) }
         ensures nodes { self.new.nodes ≡ self.old.nodes }
         ensures ok { OnOk result (self.new.shut ≡ self.old.shut) }
@@ -60,7 +60,7 @@ impl<K: Settles> Site<K> {
         // It stands where it stood.
         ensures at { (mine : ℕ → Bool) (o : Opening) (gs : List Given) → IsAt K.standing mine o gs self.old → IsAt K.standing mine o gs self.new }
     {
-        let settled = self.keeper.settle(coming);
+        let settled = self.keeper.settle(last);
         if let Err(fault) = settled {
             self.stop(fault);
         }
