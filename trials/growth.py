@@ -7,8 +7,7 @@ transactions, transactions in doubt. Of each run its processor time and its peak
 each command and kind, the largest size, what it took, and the exponent: by how many doublings time and memory grow when the size doubles, over
 the last two doublings, without what the smallest input takes. An exponent is left out where less than 100 ms, or 2 MB, were added.
 A row is a fault where an exponent is above 1.3 (--most) each time that it is measured, since processor time of a busy machine is not exact; but
-that purges of many kept transactions of one node take their square, and pictures of long transcripts more, is known. --scale multiplies all
-sizes but those of nodes and rounds.
+that purges of many kept transactions of one node take their square is known. --scale multiplies all sizes but those of nodes and rounds.
 """
 import argparse
 import math
@@ -200,8 +199,8 @@ def cases(transcript: typing.Callable[[int], bytes]) -> typing.Iterator[Case]:
         for word in ("make", "trial"):
             more = ["--rounds", "10"] if option == "--nodes" else ["--nodes", "200"]
             yield Case([word, *more, option, "%d"], over, size, lambda count: Input(b"", {}))
-    for option, known in (("", 2.8), ("--mermaid", 0), ("--html", 2.8)):
-        yield Case(["draw"] + ([option] if option else []), "lines of a transcript", 8000, lambda count: Input(transcript(count), {}), known=known)
+    for option in ("", "--mermaid", "--html"):
+        yield Case(["draw"] + ([option] if option else []), "lines of a transcript", 8000, lambda count: Input(transcript(count), {}))
 
 
 class Growth:

@@ -145,8 +145,8 @@ impl Audit {
     }
 
     // Promise 9.5: Each node whose last record of a key is a Ready or a Heuristic has a fate: what
-    //   the superior's node answers once its site has started on its log, or that this log was not
-    //   added
+    //   the superior's node answers once its site has started on its log, where it does not refuse
+    //   who asks (11.13); unknown, of a key without a branch; or that this log was not added
     /// What awaits each node that is in doubt, in the order of the logs and of the first records of the keys.
     pub fn fates(&self, alloc: Global) -> Result<Vec<Fate>, NoMemory>
         ensures { IfOk result (λ found. (logs : List SiteLog) → IsAuditOf logs self.now → found.items ≡ fates logs) }

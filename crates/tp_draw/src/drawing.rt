@@ -47,7 +47,7 @@ pub struct Form {
 //   is that of the definitions, to the byte, as SVG, as Mermaid text and as a page, of the lines
 //   and in the form that are asked for; what a browser makes of the page's script is not promised
 /// The picture of a transcript with these lines. Time goes with their number and text, and with that of the nodes for
-/// each of them; memory with the picture's text, and a megabyte for the ends of frames.
+/// each of them; memory with the picture's text, and three megabytes for the frames.
 pub fn draw(alloc: Global, lines: OutLines, form: &Form) -> Result<Octets, NoMemory>
     ensures { IfOk result (λ text. text ≡ picture form.now lines) }
 {

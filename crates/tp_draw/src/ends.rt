@@ -9,7 +9,7 @@ use tp_model::OutLine;
 use tp_names::NoMemory;
 
 /// How many numbers a frame may have.
-const FRAMES: usize = 65536;
+pub(crate) const FRAMES: usize = 65536;
 
 /// A table in which no frame has an end.
 pub(crate) fn no_ends(alloc: Global) -> Result<Vec<End>, NoMemory>

@@ -6,7 +6,6 @@ ghost use Rattle.tp_draw.specs.Shapes.{shape_of, mark_of, end_shape, ending, ask
 
 use crate::ends::{ended_at, is_in_row};
 use crate::event::event_of;
-use crate::flight::flight_of;
 use crate::lanes::node_of;
 use crate::plan::Plan;
 use crate::{End, Flight, Places, Tone};
@@ -139,7 +138,7 @@ fn ending(plan: &Plan, row: usize, ended: Option<(u16, End)>) -> Shape
         None => Shape::Bare,
         Some((frame, end)) => {
             let first = is_in_row(row, plan.end_of(frame));
-            end_shape(plan, frame, first, end, flight_of(plan.lines(), frame))
+            end_shape(plan, frame, first, end, plan.flight_of(frame))
         }
     }
 }
@@ -184,7 +183,7 @@ fn refusal_after(alloc: Global, plan: &Plan, line: &OutLine) -> Result<Shape, No
     ensures { IfOk result (λ shape. shape ≡ refusal_after plan.now line.now) }
 {
     match line {
-        OutLine::Take { frame } => match flight_of(plan.lines(), *frame) {
+        OutLine::Take { frame } => match plan.flight_of(*frame) {
             None => Ok(Shape::Bare),
             Some(flight) => Ok(Shape::Dropped {
                 place: plan.place_of(flight.to),

@@ -56,8 +56,9 @@ pub fn drive<R: Threads + Wait + Sync, D: Disk + Send, G: Gate + Sync>(
     // Promise 6.5: `DiskFault` comes only of a log that is shut, whose disk failed in the call;
     //   after the boot the journal's list has an interleaving of prefixes of the lanes' records
     // Promise 6.6: `Full` comes only of a log that is not shut, in which one more record of the
-    //   greatest length would have had no room; the event is the least at which a lane stopped for
-    //   another cause than memory
+    //   greatest length would have had no room; after the boot the journal's list has an
+    //   interleaving of the lanes' records, of each lane all or those before some event; the event
+    //   that is told is the least of these that is not for want of memory
     // Promise 6.7: `LogDiffers` never comes
     // Promise 6.10: Where memory runs out after the boot, the journal's list has after it an
     //   interleaving of prefixes of the lanes' records

@@ -27,7 +27,8 @@ impl Model for Recalled {
 
 impl Recalled {
     // Promise 11.13: What the records of a site's log make a node answer to a ready branch that
-    //   asks, whoever asks, is what the definitions answer after a start on that log
+    //   asks is what the definitions answer after a start on that log, where they do not refuse
+    //   who asks as one at another address
     /// The nodes of the site of that name, from the records of its log, oldest first. No answer depends on the boot number of
     /// a start, so none is asked for.
     #[tactic(auto, using(crate::proofs::Recalling::recalled))]

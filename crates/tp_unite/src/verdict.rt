@@ -64,7 +64,8 @@ fn judge(alloc: Global, recording: Recording) -> Result<Verdict, NoMemory>
     }
 }
 
-/// Reads the frames of a recording, and tells whether its processes are a deployment.
+/// Reads the frames of a recording, and tells whether its processes are a deployment. Where the source stands then is not said:
+/// it is thrown away.
 pub fn unite<S: Source>(alloc: Global, source: &mut S) -> Result<Verdict, Stop>
     // Promise 22.20 [tp_unite/specs/Verdicts.antt]: Where the verdict over a recording is that it
     //   is a deployment, the bytes are whole frames, the places are arranged as is asked above, no

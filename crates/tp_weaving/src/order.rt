@@ -131,10 +131,10 @@ fn woven_of(lanes: &[Lane]) -> Woven
 }
 
 // Promise 22.21 [tp_weaving/specs/Weaving.antt]: Steps that sites took, of each site in one list,
-//   each with the letter that it needs and those that it says, are put into such an order, where
-//   `weave` says so; where it names a frame instead, some of the steps make an order that is a
-//   deployment, no other reaches a step more of any site, and that frame tells the first step of
-//   its site that none reaches
+//   each placed (22.25), with the letter that it needs and those that it says, whose octets read
+//   back, are put into such an order, where `weave` says so; where it names a frame instead, some
+//   of the steps make an order that is a deployment, no other reaches a step more of any site, and
+//   that frame tells the first step of its site that none reaches
 /// Puts the steps of the sites into one order, in which what a step takes was said before; or names a frame where none goes on, the first
 /// one of its site that no order reaches. Without memory the lanes are thrown away.
 pub fn weave(alloc: Global, lanes: &mut [Lane]) -> Result<Woven, NoMemory>

@@ -51,7 +51,8 @@ impl<D: Disk> Bound<D> {
         ensures others { IfOk result (λ told. node ≢ self.old.node → (told ≡ None) × (self.new ≡ self.old)) }
         // A body that is needed is added, and the answer follows; or the disk has failed.
         // Promise 8.8: What a store does with an indication of its own node, and what it answers,
-        //   is the table of SERVICE
+        //   is the table of SERVICE; where a body is missing (8.9), what it holds stays as it
+        //   was, and it answers what is said below the table
         // Promise 8.9: A body that was needed is missing only where the disk's count rose in the
         //   call, or the log was shut before
         // Promise 8.11 [clauses tells shuts forced]: When a call has answered and the disk's count
