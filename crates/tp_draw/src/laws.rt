@@ -68,7 +68,8 @@ pub fn each_node_has_one_lane()
 {}
 
 // Promise 21.13 [tp_draw/specs/Chosen.antt, tp_draw/specs/Subjects.antt]: Where nodes are chosen,
-//   each of them whose site the transcript tells keeps its one lane, and no other node has a lane
+//   each of them whose site the transcript tells keeps its one lane, and no node has a lane that is
+//   not chosen
 /// In a picture of chosen nodes each of them whose site the transcript tells has one lane, and no other node has any.
 pub fn a_chosen_node_keeps_its_lane()
     ensures kept { (ns : List ℕ) (os : List OutLine) (n : ℕ) → is_among n ns ≡ true → is_placed n os ≡ true
