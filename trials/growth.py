@@ -7,8 +7,7 @@ transactions, transactions in doubt. Of each run its processor time and its peak
 each command and kind, the largest size, what it took, and the exponent: by how many doublings time and memory grow when the size doubles, over
 the last two doublings, without what the smallest input takes. An exponent is left out where less than 100 ms, or 2 MB, were added.
 A row is a fault where an exponent is above 1.3 (--most) each time that it is measured, since processor time of a busy machine is not exact; but
-that purges of many kept transactions of one node take their square, and pictures of long transcripts more, is known. --scale multiplies all
-sizes but those of nodes and rounds.
+that pictures of long transcripts take more is known. --scale multiplies all sizes but those of nodes and rounds.
 """
 import argparse
 import math
@@ -192,7 +191,7 @@ def cases(transcript: typing.Callable[[int], bytes]) -> typing.Iterator[Case]:
     yield Case(["unite"], "frames", 15000, recording)
     yield Case(["node"], "declared nodes", 32, declared)
     yield Case(["node"], "kept, and a retry of all", 5000, log_of(lambda count: kept(count, True), streams.stream([wire.retry(1)])))
-    yield Case(["node"], "kept, and purged", 2500, lambda count: frames(streams.purges(1, count), kept(count)), known=2.3)
+    yield Case(["node"], "kept, and purged", 2500, lambda count: frames(streams.purges(1, count), kept(count)))
     for how in ("ended", "kept"):
         yield Case(["replay"], "lines of transactions that %s" % ("end" if how == "ended" else "are kept"), 2000, schedule(how))
     yield Case(["replay"], "nodes", 32, wide)
