@@ -6,8 +6,8 @@ Each command runs on inputs of one kind in four sizes, each twice as large as th
 transactions, transactions in doubt. Of each run its processor time and its peak of memory are taken, the least of three. The table has, for
 each command and kind, the largest size, what it took, and the exponent: by how many doublings time and memory grow when the size doubles, over
 the last two doublings, without what the smallest input takes. An exponent is left out where less than 100 ms, or 2 MB, were added.
-A row is a fault where an exponent is above 1.3 (--most) each time that it is measured, since processor time of a busy machine is not exact; but
-that purges of many kept transactions of one node take their square is known. --scale multiplies all sizes but those of nodes and rounds.
+A row is a fault where an exponent is above 1.3 (--most) each time that it is measured, since processor time of a busy machine is not exact.
+--scale multiplies all sizes but those of nodes and rounds.
 """
 import argparse
 import math
@@ -57,14 +57,13 @@ class Input(typing.NamedTuple):
 
 
 class Case(typing.NamedTuple):
-    """A command, what is made larger, the smallest of the four sizes, and the input of a size; what its status must be, and what is known of it."""
+    """A command, what is made larger, the smallest of the four sizes, and the input of a size; and what its status must be."""
 
     words: typing.List[str]
     over: str
     size: int
     make: typing.Callable[[int], Input]
     status: int = 0
-    known: float = 0
 
 
 # The logs of a site.
@@ -191,7 +190,7 @@ def cases(transcript: typing.Callable[[int], bytes]) -> typing.Iterator[Case]:
     yield Case(["unite"], "frames", 15000, recording)
     yield Case(["node"], "declared nodes", 32, declared)
     yield Case(["node"], "kept, and a retry of all", 5000, log_of(lambda count: kept(count, True), streams.stream([wire.retry(1)])))
-    yield Case(["node"], "kept, and purged", 2500, lambda count: frames(streams.purges(1, count), kept(count)), known=2.3)
+    yield Case(["node"], "kept, and purged", 2500, lambda count: frames(streams.purges(1, count), kept(count)))
     for how in ("ended", "kept"):
         yield Case(["replay"], "lines of transactions that %s" % ("end" if how == "ended" else "are kept"), 2000, schedule(how))
     yield Case(["replay"], "nodes", 32, wide)
@@ -267,7 +266,7 @@ class Growth:
             sizes = [2 if "nodes" in case.over else 1] + [min(size, 256 if "nodes" in case.over else 30) for size in sizes[1:]]
         inputs = [(size, case.make(size)) for size in sizes]
         runs: typing.List[typing.List[typing.Tuple[float, float]]] = [[] for _ in sizes]
-        most = max(self.options.most, case.known)
+        most = self.options.most
         for attempt in range(MOST_ATTEMPTS):
             for (size, given), found in zip(inputs, runs):
                 found += [self.run(case, size, given) for _ in range(self.options.times)]

@@ -169,7 +169,7 @@ impl Node {
     pub fn oldest_kept(&self, alloc: Global) -> Result<Option<Kept>, NoMemory>
         ensures { IfOk result (λ kept. kept ≡ slice_get self.now.digest.kept 0) }
     {
-        match self.kept.get(0) {
+        match self.kept.oldest() {
             None => Ok(None),
             Some(kept) => Ok(Some(kept::copy(alloc, kept)?)),
         }
@@ -591,7 +591,7 @@ impl Node {
     pub(crate) fn refused_purge(&self) -> Option<Refusal>
         ensures { result ≡ refused_purge self.now.digest.kept }
     {
-        match self.kept.get(0) {
+        match self.kept.oldest() {
             None => Some(NotKept),
             Some(kept) => refused(kept, &KeptEvent::Purge),
         }
@@ -837,7 +837,7 @@ impl Node {
     pub fn kept(&self, alloc: Global) -> Result<Vec<Kept>, NoMemory>
         ensures { IfOk result (λ kept. kept.items ≡ self.now.digest.kept) }
     {
-        kept::copies(alloc, &self.kept)
+        self.kept.copies(alloc)
     }
 
     // Promise 10.14, part 4

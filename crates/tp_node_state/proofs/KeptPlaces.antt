@@ -1,16 +1,21 @@
--- The list of kept transactions: one put in the place of its key, one taken away, one found, and the one at a place.
-use Rattle.std.proofs.Common.{◌≡◌, ◌≤◌, ◌<◌, ℕ, ◌+◌, zero, suc, Bool, true, false, Option, Some, None, List, [], ◌∷◌, ◌++◌, length, drop, refl, ap, sym, subst, ◌∙◌, arith}
-use Rattle.std.proofs.lemmas.List.Edits.{length-remove}
-use Rattle.std.specs.Prelude.{slice_get, ◌||◌, if◌then◌else◌}
-use Rattle.std.specs.List.{remove}
+-- The list of kept transactions: one put in the place of its key, one taken away, one found, and a change of one that waits.
+use Rattle.std.proofs.Common.{◌≡◌, ℕ, zero, suc, Bool, true, false, Option, Some, None, List, [], ◌∷◌, ◌++◌, length, refl, ap, sym, ◌∙◌, arith}
+use Rattle.std.specs.Prelude.{Box, slice_get, ◌||◌, if◌then◌else◌}
+use Rattle.std.specs.Map.{values_of}
+use Rattle.std.specs.Option.{option_to_list}
+use Rattle.std.specs.declared.alloc.Global.{Global}
 use Rattle.tp_names.specs.declared.outcome.Outcome.{Outcome}
+use Rattle.tp_names.specs.declared.identifiers.Aaid.{Aaid}
+use Rattle.tp_names.specs.declared.identifiers.BranchId.{BranchId}
 use Rattle.tp_names.specs.declared.identifiers.NodeKey.{NodeKey}
 use Rattle.tp_names.specs.Same.{is_key}
 use Rattle.tp_names.proofs.Sames.{key_same}
 use Rattle.tp_model.specs.declared.recovery.Kept.{Kept}
 use Rattle.tp_model.specs.declared.recovery.KeptEvent.{KeptEvent}
 use Rattle.tp_model.specs.Recovery.{is_commit, noted, find_kept, with_forget, put_kept, without_kept}
-use Rattle.tp_node_state.specs.Kept.{place_of_key, with_kept}
+use Rattle.tp_node_state.specs.declared.change.Change.{Change}
+use Rattle.tp_node_state.specs.Changes.{changed_one, changed_all, newcomer, changed, first_put, first_removed}
+use Rattle.tp_node_state.specs.Kept.{with_kept, first_in, listed, AreSingle}
 
 -- ---- one more that is kept
 
@@ -68,106 +73,103 @@ pub put_removed : (ks : List Kept) (k : Kept) (q : NodeKey) → is_key k.key q �
 put_removed [] k q h = grind (arith, h)
 put_removed (x ∷ ks) k q h = let same = ap (is_key x.key) (key_same k.key q h) in grind (arith, h, same, put_removed ks k q h)
 
--- ---- the one with a key is taken away: the one at its place, where there is one
+-- ---- with a change
 
-pub removed_there : (ks : List Kept) (q : NodeKey) → place_of_key ks q < length ks → remove ks (place_of_key ks q) ≡ without_kept ks q
-removed_there [] q h = absurd (omega (arith, h))
-removed_there (x ∷ ks) q h = go (is_key x.key q) refl (removed_there ks q)
-  where
-    at : Bool → List Kept
-    at b = remove (x ∷ ks) (if b then 0 else suc (place_of_key ks q))
+append_none : (ks : List Kept) → ks ++ [] ≡ ks
+append_none [] = refl
+append_none (x ∷ ks) = ap (λ (l : List Kept). x ∷ l) (append_none ks)
 
-    rest_of : Bool → List Kept
-    rest_of b = if b then ks else x ∷ without_kept ks q
-
-    less : Bool → Type 0
-    less b = (if b then 0 else suc (place_of_key ks q)) < suc (length ks)
-
-    go : (b : Bool) → is_key x.key q ≡ b → (place_of_key ks q < length ks → remove ks (place_of_key ks q) ≡ without_kept ks q) → at (is_key x.key q) ≡ rest_of (is_key x.key q)
-    go true e rest = ap at e ∙ sym (ap rest_of e)
-    go false e rest = ap at e ∙ ap (λ (l : List Kept). x ∷ l) (rest (let one : suc (place_of_key ks q) < suc (length ks) = subst less e h in omega (arith, one))) ∙ sym (ap rest_of e)
-
-pub removed_nowhere : (ks : List Kept) (q : NodeKey) → length ks ≤ place_of_key ks q → ks ≡ without_kept ks q
+pub removed_nowhere : (ks : List Kept) (q : NodeKey) → find_kept ks q ≡ None → without_kept ks q ≡ ks
 removed_nowhere [] q h = refl
 removed_nowhere (x ∷ ks) q h = grind (arith, h, removed_nowhere ks q)
 
--- ---- lengths
+pub put_same : (ks : List Kept) (k o : Kept) → find_kept ks k.key ≡ Some o → length (with_kept ks k) ≡ length ks
+put_same [] k o h = absurd (cc h)
+put_same (x ∷ ks) k o h = grind (arith, h, put_same ks k o)
 
-pub put_same : (ks : List Kept) (k : Kept) → place_of_key ks k.key < length ks → length (with_kept ks k) ≡ length ks
-put_same [] k h = absurd (omega (arith, h))
-put_same (x ∷ ks) k h = grind (arith, h, put_same ks k)
-
-pub put_longer : (ks : List Kept) (k : Kept) → length ks ≤ place_of_key ks k.key → length (with_kept ks k) ≡ suc (length ks)
+pub put_longer : (ks : List Kept) (k : Kept) → find_kept ks k.key ≡ None → length (with_kept ks k) ≡ suc (length ks)
 put_longer [] k h = refl
 put_longer (x ∷ ks) k h = grind (arith, h, put_longer ks k)
 
-pub removed_shorter : (ks : List Kept) (p : ℕ) → p < length ks → suc (length (remove ks p)) ≡ length ks
-removed_shorter ks p h = let one = length-remove ks p h in omega (arith, one)
+pub removed_shorter : (ks : List Kept) (q : NodeKey) (o : Kept) → find_kept ks q ≡ Some o → suc (length (without_kept ks q)) ≡ length ks
+removed_shorter [] q o h = absurd (cc h)
+removed_shorter (x ∷ ks) q o h = grind (arith, h, removed_shorter ks q o)
 
--- ---- the one at a place
+pub put_first : (ks : List Kept) (k : Kept) → slice_get (with_kept ks k) 0 ≡ first_put (slice_get ks 0) k
+put_first [] k = refl
+put_first (x ∷ ks) k = grind arith
 
-pub put_here : (ks : List Kept) (k : Kept) → slice_get (with_kept ks k) (place_of_key ks k.key) ≡ Some k
-put_here [] k = refl
-put_here (x ∷ ks) k = go (is_key x.key k.key) refl (put_here ks k)
+pub removed_first : (ks : List Kept) (q : NodeKey) → slice_get (without_kept ks q) 0 ≡ first_removed (slice_get ks 0) (slice_get ks 1) q
+removed_first [] q = refl
+removed_first (x ∷ ks) q = grind arith
+
+first_behind : (xs ys : List Kept) (t : Aaid) (b : Option BranchId) → first_in (xs ++ ys) t b ≡ elim (first_in xs t b) [ None ↦ first_in ys t b | Some k ↦ Some k ]
+first_behind [] ys t b = refl
+first_behind (x ∷ xs) ys t b = grind (arith, first_behind xs ys t b)
+
+unchanged : (ks : List Kept) → changed_all None ks ≡ ks
+unchanged [] = refl
+unchanged (x ∷ ks) = ap (λ (l : List Kept). x ∷ l) (unchanged ks)
+
+put_apart : (ks : List Kept) (c : Box Kept Global) → find_kept ks c.value.key ≡ None → changed_all (Some (Change.Put c)) ks ≡ ks
+put_apart [] c h = refl
+put_apart (x ∷ ks) c h = grind (arith, h, put_apart ks c)
+
+removed_apart : (ks : List Kept) (q : NodeKey) → find_kept ks q ≡ None → changed_all (Some (Change.Remove q)) ks ≡ ks
+removed_apart [] q h = refl
+removed_apart (x ∷ ks) q h = grind (arith, h, removed_apart ks q)
+
+put_all : (ks : List Kept) (c : Box Kept Global) → AreSingle ks → with_kept ks c.value ≡ changed_all (Some (Change.Put c)) ks ++ option_to_list (newcomer (Some (Change.Put c)) ks)
+put_all [] c h = refl
+put_all (x ∷ ks) c h = go (is_key x.key c.value.key) refl (put_all ks c h.1)
   where
-    at : Bool → Option Kept
-    at b = slice_get (if b then k ∷ ks else x ∷ with_kept ks k) (if b then 0 else suc (place_of_key ks k.key))
+    go : (b : Bool) → is_key x.key c.value.key ≡ b → with_kept ks c.value ≡ changed_all (Some (Change.Put c)) ks ++ option_to_list (newcomer (Some (Change.Put c)) ks)
+        → with_kept (x ∷ ks) c.value ≡ changed_all (Some (Change.Put c)) (x ∷ ks) ++ option_to_list (newcomer (Some (Change.Put c)) (x ∷ ks))
+    go true e rest = let apart = put_apart ks c (ap (find_kept ks) (sym (key_same x.key c.value.key e)) ∙ h.0) in let end = append_none ks in grind (arith, e, apart, end)
+    go false e rest = grind (arith, e, rest)
 
-    go : (b : Bool) → is_key x.key k.key ≡ b → slice_get (with_kept ks k) (place_of_key ks k.key) ≡ Some k → at (is_key x.key k.key) ≡ Some k
-    go true e rest = ap at e
-    go false e rest = ap at e ∙ rest
-
-pub put_else : (ks : List Kept) (k : Kept) (i : ℕ) → (i ≡ place_of_key ks k.key → ⊥) → slice_get (with_kept ks k) i ≡ slice_get ks i
-put_else [] k zero n = absurd (n refl)
-put_else [] k (suc i) n = refl
-put_else (x ∷ ks) k i n = go (is_key x.key k.key) refl i n (put_else ks k)
+removed_all : (ks : List Kept) (q : NodeKey) → AreSingle ks → without_kept ks q ≡ changed_all (Some (Change.Remove q)) ks
+removed_all [] q h = refl
+removed_all (x ∷ ks) q h = go (is_key x.key q) refl (removed_all ks q h.1)
   where
-    at : Bool → ℕ → Option Kept
-    at b j = slice_get (if b then k ∷ ks else x ∷ with_kept ks k) j
+    go : (b : Bool) → is_key x.key q ≡ b → without_kept ks q ≡ changed_all (Some (Change.Remove q)) ks → without_kept (x ∷ ks) q ≡ changed_all (Some (Change.Remove q)) (x ∷ ks)
+    go true e rest = let apart = removed_apart ks q (ap (find_kept ks) (sym (key_same x.key q e)) ∙ h.0) in grind (arith, e, apart)
+    go false e rest = grind (arith, e, rest)
 
-    other : Bool → ℕ → Type 0
-    other b j = j ≡ (if b then 0 else suc (place_of_key ks k.key)) → ⊥
+-- each with the change, and the one that is new
+pub changed_is : (c : Option Change) (ks : List Kept) → AreSingle ks → changed c ks ≡ changed_all c ks ++ option_to_list (newcomer c ks)
+changed_is None ks h = sym (append_none (changed_all None ks) ∙ unchanged ks)
+changed_is (Some (Change.Put b)) ks h = put_all ks b h
+changed_is (Some (Change.Remove q)) ks h = removed_all ks q h ∙ sym (append_none (changed_all (Some (Change.Remove q)) ks))
 
-    go : (b : Bool) → is_key x.key k.key ≡ b → (j : ℕ) → other (is_key x.key k.key) j → ((l : ℕ) → (l ≡ place_of_key ks k.key → ⊥) → slice_get (with_kept ks k) l ≡ slice_get ks l) → at (is_key x.key k.key) j ≡ slice_get (x ∷ ks) j
-    go true e zero m rest = absurd (subst (λ b. other b zero) e m refl)
-    go true e (suc j) m rest = ap (λ b. at b (suc j)) e
-    go false e zero m rest = ap (λ b. at b zero) e
-    go false e (suc j) m rest = ap (λ b. at b (suc j)) e ∙ rest j (λ same. subst (λ b. other b (suc j)) e m (ap suc same))
+pub first_changed : (c : Option Change) (ks : List Kept) (t : Aaid) (b : Option BranchId) → AreSingle ks
+    → first_in (changed c ks) t b ≡ elim (first_in (changed_all c ks) t b) [ None ↦ first_in (option_to_list (newcomer c ks)) t b | Some k ↦ Some k ]
+first_changed c ks t b h = ap (λ l. first_in l t b) (changed_is c ks h) ∙ first_behind (changed_all c ks) (option_to_list (newcomer c ks)) t b
 
-pub removed_before : (ks : List Kept) (p i : ℕ) → i < p → slice_get (remove ks p) i ≡ slice_get ks i
-removed_before [] zero i h = refl
-removed_before [] (suc p) i h = refl
-removed_before (x ∷ ks) zero i h = absurd (omega (arith, h))
-removed_before (x ∷ ks) (suc p) zero h = refl
-removed_before (x ∷ ks) (suc p) (suc i) h = removed_before ks p i (omega (arith, h))
+-- ---- copies
 
-pub removed_after : (ks : List Kept) (p i : ℕ) → p ≤ i → slice_get (remove ks p) i ≡ slice_get ks (suc i)
-removed_after [] zero i h = refl
-removed_after [] (suc p) i h = refl
-removed_after (x ∷ ks) zero i h = refl
-removed_after (x ∷ ks) (suc p) zero h = absurd (omega (arith, h))
-removed_after (x ∷ ks) (suc p) (suc i) h = removed_after ks p i (omega (arith, h))
+abbrev pub shown : List (Box Kept Global) → List Kept
+shown [] = []
+shown (b ∷ bs) = b.value ∷ shown bs
 
-pub none_past : (ks : List Kept) (i : ℕ) → length ks ≤ i → slice_get ks (suc i) ≡ None
-none_past [] i h = refl
-none_past (x ∷ ks) zero h = absurd (omega (arith, h))
-none_past (x ∷ ks) (suc i) h = none_past ks i (omega (arith, h))
-
--- the list from a place on
-pub from_place : (ks : List Kept) (i : ℕ) (x : Kept) → Some x ≡ slice_get ks i → drop i ks ≡ x ∷ drop (i + 1) ks
-from_place [] i x h = absurd (cc)
-from_place (y ∷ ks) zero x h = grind (arith, h)
-from_place (y ∷ ks) (suc i) x h = from_place ks i x h ∙ ap (λ (n : ℕ). x ∷ drop n (y ∷ ks)) (let same : suc (i + 1) ≡ suc i + 1 = omega arith in same)
+pub shown_values : (es : List (ℕ × Box Kept Global)) → shown (values_of es) ≡ listed es
+shown_values [] = refl
+shown_values (e ∷ es) = ap (λ (l : List Kept). e.1.value ∷ l) (shown_values es)
 
 more_behind : (xs : List Kept) (y : Kept) (zs : List Kept) → (xs ++ y ∷ []) ++ zs ≡ xs ++ y ∷ zs
 more_behind [] y zs = refl
 more_behind (x ∷ xs) y zs = ap (λ (l : List Kept). x ∷ l) (more_behind xs y zs)
 
--- one more of them is copied
-pub copied_more : (ks done new : List Kept) (i : ℕ) (x y : Kept) → new ≡ done ++ y ∷ [] → y ≡ x → Some x ≡ slice_get ks i → done ++ drop i ks ≡ ks → new ++ drop (i + 1) ks ≡ ks
-copied_more ks done new i x y made same at before =
-    ap (λ (l : List Kept). l ++ drop (i + 1) ks) made
-    ∙ more_behind done y (drop (i + 1) ks)
-    ∙ ap (λ (z : Kept). done ++ z ∷ drop (i + 1) ks) same
-    ∙ ap (λ (l : List Kept). done ++ l) (sym (from_place ks i x at))
-    ∙ before
+pub copied_more : (c : Option Change) (done : List Kept) (b : Box Kept Global) (bs : List (Box Kept Global)) (x : Kept) → changed_one c b.value ≡ Some x
+    → (done ++ x ∷ []) ++ changed_all c (shown bs) ≡ done ++ changed_all c (shown (b ∷ bs))
+copied_more c done b bs x is = more_behind done x (changed_all c (shown bs)) ∙ ap (λ (o : Option Kept). done ++ (option_to_list o ++ changed_all c (shown bs))) (sym is)
+
+pub copied_none : (c : Option Change) (done : List Kept) (b : Box Kept Global) (bs : List (Box Kept Global)) → changed_one c b.value ≡ None
+    → done ++ changed_all c (shown bs) ≡ done ++ changed_all c (shown (b ∷ bs))
+copied_none c done b bs is = ap (λ (o : Option Kept). done ++ (option_to_list o ++ changed_all c (shown bs))) (sym is)
+
+pub copied_all : (done ks : List Kept) (c : Option Change) (bs : List (Box Kept Global)) → bs ≡ [] → done ++ changed_all c (shown bs) ≡ ks → done ≡ ks
+copied_all done ks c bs none is = sym (append_none done) ∙ ap (λ l. done ++ changed_all c (shown l)) (sym none) ∙ is
+
+pub copies_changed : (c : Option Change) (ks copies more : List Kept) → AreSingle ks → copies ≡ changed_all c ks → more ≡ copies ++ option_to_list (newcomer c ks) → more ≡ changed c ks
+copies_changed c ks copies more h all new = new ∙ ap (λ (l : List Kept). l ++ option_to_list (newcomer c ks)) all ∙ sym (changed_is c ks h)

@@ -1,230 +1,285 @@
--- The kept transactions of a tree: the only one, or the first of several.
-use Rattle.std.proofs.Common.{◌≡◌, ◌≤◌, ℕ, zero, suc, Bool, true, false, Option, Some, None, List, [], ◌∷◌, length, refl, ap, sym, subst, ◌∙◌, arith, cond, if◌then◌else◌}
-use Rattle.std.specs.Prelude.{slice_get, ◌&&◌}
-use Rattle.std.specs.List.{remove}
-use Rattle.indexmap.specs.IndexMap.{insert_entry}
+-- The ages of the kept transactions of a tree.
+use Rattle.std.proofs.Common.{◌≡◌, ◌<◌, ◌+◌, ℕ, zero, suc, drop, get_or, Bool, true, false, Option, Some, None, List, [], ◌∷◌, ◌++◌, length, refl, ap, sym, subst, ◌∙◌, arith, cond, if◌then◌else◌, not}
+use Rattle.std.specs.Prelude.{Box, Vec, ◌==◌, ◌&&◌}
+use Rattle.std.specs.BTreeMap.{is_at, insert_entry}
+use Rattle.std.specs.List.{filter, All}
+use Rattle.std.specs.List.Sorted.{IsStrictlySortedBy}
+use Rattle.std.proofs.lemmas.List.Elements.{All-head, All-tail}
+use Rattle.std.specs.Map.{lookup, keys_of, set_value, remove_entry}
+use Rattle.std.specs.Ordering.{nat_cmp, is_lt}
+use Rattle.std.specs.declared.alloc.Global.{Global}
+use Rattle.std.proofs.lemmas.Bool.Decides.{nat_tests}
+use Rattle.std.proofs.lemmas.Grind.{common_steps}
 use Rattle.tp_names.specs.declared.identifiers.Aaid.{Aaid}
 use Rattle.tp_names.specs.declared.identifiers.BranchId.{BranchId}
 use Rattle.tp_names.specs.declared.identifiers.NodeKey.{NodeKey}
-use Rattle.tp_names.specs.Same.{is_aaid, is_key}
-use Rattle.tp_names.proofs.Sames.{key_same, key_self, aaid_same, aaid_self}
+use Rattle.tp_names.specs.Same.{is_aaid, is_key, is_branch_option}
+use Rattle.tp_names.proofs.Sames.{key_same, aaid_same, aaid_self}
+use Rattle.tp_node_state.specs.declared.change.Change.{Change}
 use Rattle.tp_model.specs.declared.recovery.Kept.{Kept}
+use Rattle.tp_node_state.specs.declared.tree_key.TreeKey.{TreeKey}
 use Rattle.tp_model.specs.Arrivals.{kept_owing, kept_of}
-use Rattle.tp_node_state.specs.declared.kept_key.KeptKey.{KeptKey}
-use Rattle.tp_node_state.specs.declared.trees.InTree.{InTree}
-use Rattle.tp_node_state.specs.Kept.{is_same_key, key_of, tree_key, listed, AreKeyed, with_kept, place_of_key, of_tree, alone, owes, first_in}
-use Rattle.tp_node_state.specs.Trees.{in_tree, with_one, AreOne, IsKnown, AreKnown}
-use Rattle.tp_node_state.proofs.KeptEntries.{listed_put, keyed_put, listed_removed, keyed_removed}
+use Rattle.tp_model.specs.Recovery.{without_kept}
+use Rattle.tp_node_state.specs.Kept.{is_tree, tree_key, listed, owes, first_in, age_of, ages_of, at_age, has_key, age_among, ages_in, without_age, with_kept, AreBelow, AreSingle, IsIndexed}
+use Rattle.tp_node_state.specs.Changes.{changed_one, changed_all, owing_at, first_among}
+use Rattle.tp_node_state.proofs.KeptAges.{AreAbove, Ascend, ascends, age_above, at_above, at_itself, replaced, removed, put_behind, single_put, single_removed}
 
-aaid_either : (a b : Aaid) → is_aaid a b ≡ false → is_aaid b a ≡ false
-aaid_either a b e = go (is_aaid b a) refl
+pub filter-without_age : (a : ℕ) (ns : List ℕ) → filter (λ n. not (n == a)) ns ≡ without_age ns a
+filter-without_age a [] = refl
+filter-without_age a (n ∷ ns) = grind (arith, common_steps, filter-without_age a ns)
+
+abbrev pub ages_listed : Option (Vec ℕ Global) → List ℕ
+ages_listed o = elim o [ None ↦ [] | Some v ↦ v.items ]
+
+-- the table after what is noted of one tree is written, or forgotten
+pub noted_at : (old new : List (TreeKey × Vec ℕ Global)) (a : Aaid) (o : Option (Vec ℕ Global))
+    → ((q : TreeKey) → lookup (is_tree q) new ≡ cond (is_tree (tree_key a) q) o (lookup (is_tree q) old))
+    → (t : Aaid) → ages_in new t ≡ cond (is_aaid a t) (ages_listed o) (ages_in old t)
+noted_at old new a o at t = ap ages_listed (at (tree_key t)) ∙ go (is_aaid a t)
   where
-    go : (c : Bool) → is_aaid b a ≡ c → is_aaid b a ≡ false
-    go true f = let same : is_aaid a b ≡ true = ap (λ x. is_aaid x b) (sym (aaid_same b a f)) ∙ aaid_self b in absurd (cc (sym same ∙ e))
-    go false f = f
+    go : (b : Bool) → ages_listed (cond b o (lookup (is_tree (tree_key t)) old)) ≡ cond b (ages_listed o) (ages_in old t)
+    go true = refl
+    go false = refl
 
--- ---- one put in the place of its key
+-- ---- the ages of a tree, as those before are gone over
 
-put_elsewhere : (ks : List Kept) (k : Kept) (t : Aaid) → is_aaid k.key.aaid t ≡ false → of_tree (with_kept ks k) t ≡ of_tree ks t
-put_elsewhere [] k t e = grind (arith, e)
-put_elsewhere (x ∷ ks) k t e = go (is_key x.key k.key) refl (put_elsewhere ks k t e)
+-- each is found by its age
+abbrev pub AreFound : List (ℕ × Box Kept Global) → List (ℕ × Box Kept Global) → Type 0
+AreFound all [] = Unit {0}
+AreFound all (e ∷ es) = (at_age all e.0 ≡ Some e.1) × AreFound all es
+
+found_later : (e : ℕ × Box Kept Global) (all es : List (ℕ × Box Kept Global)) → AreAbove e.0 es → AreFound all es → AreFound (e ∷ all) es
+found_later e all [] h is = tt
+found_later e all (x ∷ es) h is = (let other = at_above e.0 x.0 h.0 in let own = is.0 in grind (arith, other, own), found_later e all es h.1 is.1)
+
+all_found : (es : List (ℕ × Box Kept Global)) → Ascend es → AreFound es es
+all_found [] h = tt
+all_found (e ∷ es) h = (let own = at_itself e.0 in grind (arith, own), found_later e es es h.0 (all_found es h.1))
+
+key_among : (all es : List (ℕ × Box Kept Global)) (q : NodeKey) → AreFound all es → age_of es q ≡ age_among all q (ages_of es q.aaid)
+key_among all [] q h = refl
+key_among all (e ∷ es) q h = go (is_aaid e.1.value.key.aaid q.aaid) refl (key_among all es q h.1)
   where
-    go : (b : Bool) → is_key x.key k.key ≡ b → of_tree (with_kept ks k) t ≡ of_tree ks t → of_tree (with_kept (x ∷ ks) k) t ≡ of_tree (x ∷ ks) t
-    go true f rest = let other : is_aaid x.key.aaid t ≡ false = ap (λ (q : NodeKey). is_aaid q.aaid t) (key_same x.key k.key f) ∙ e in grind (arith, e, f, other)
+    go : (b : Bool) → is_aaid e.1.value.key.aaid q.aaid ≡ b → age_of es q ≡ age_among all q (ages_of es q.aaid) → age_of (e ∷ es) q ≡ age_among all q (ages_of (e ∷ es) q.aaid)
+    go true f rest = let own = h.0 in grind (arith, f, rest, own)
     go false f rest = grind (arith, f, rest)
 
-put_there : (ks : List Kept) (k : Kept) (t : Aaid) → is_aaid k.key.aaid t ≡ true → of_tree (with_kept ks k) t ≡ with_kept (of_tree ks t) k
-put_there [] k t e = grind (arith, e)
-put_there (x ∷ ks) k t e = go (is_key x.key k.key) refl (put_there ks k t e)
+pub key_found : (es : List (ℕ × Box Kept Global)) (q : NodeKey) → Ascend es → age_of es q ≡ age_among es q (ages_of es q.aaid)
+key_found es q h = key_among es es q (all_found es h)
+
+-- what takes the place of one is of its tree
+changed_tree : (c : Option Change) (x y : Kept) → changed_one c x ≡ Some y → y.key.aaid ≡ x.key.aaid
+changed_tree None x y h = let same : x ≡ y = cc (h) in ap (λ z. z.key.aaid) (sym same)
+changed_tree (Some (Change.Put b)) x y h = go (is_key x.key b.value.key) refl
   where
-    go : (b : Bool) → is_key x.key k.key ≡ b → of_tree (with_kept ks k) t ≡ with_kept (of_tree ks t) k → of_tree (with_kept (x ∷ ks) k) t ≡ with_kept (of_tree (x ∷ ks) t) k
-    go true f rest = let own : is_aaid x.key.aaid t ≡ true = ap (λ (q : NodeKey). is_aaid q.aaid t) (key_same x.key k.key f) ∙ e in grind (arith, e, f, own)
-    go false f rest = grind (arith, f, rest)
-
-one_put : (ks : List Kept) (k : Kept) (q : NodeKey) → q ≡ k.key → AreOne q ks → AreOne q (with_kept ks k)
-one_put [] k q e h = sym e
-one_put (x ∷ []) k q e h =
-    let same : is_key x.key k.key ≡ true = ap (λ (y : NodeKey). is_key y k.key) (h ∙ e) ∙ key_self k.key in
-    subst (λ b. AreOne q (if b then k ∷ [] else x ∷ with_kept [] k)) (sym same) (sym e)
-one_put (x ∷ y ∷ ks) k q e h = absurd h
-
-known_more : (t : Aaid) (w : Option InTree) (ks : List Kept) (k : Kept) → k.key.aaid ≡ t → IsKnown t w ks → IsKnown t (Some (with_one w k.key)) (with_kept ks k)
-known_more t None ks k a h = subst (λ l. IsKnown t (Some (InTree.One k.key)) (with_kept l k)) (sym h) (a, refl)
-known_more t (Some InTree.More) ks k a h = tt
-known_more t (Some (InTree.One q)) ks k a h = go (is_key q k.key) refl
+    go : (t : Bool) → is_key x.key b.value.key ≡ t → y.key.aaid ≡ x.key.aaid
+    go true e =
+        let same : b.value ≡ y = grind (arith, e, h) in
+        ap (λ (z : Kept). z.key.aaid) (sym same) ∙ ap (λ (k : NodeKey). k.aaid) (sym (key_same x.key b.value.key e))
+    go false e = let same : x ≡ y = grind (arith, e, h) in ap (λ (z : Kept). z.key.aaid) (sym same)
+changed_tree (Some (Change.Remove q)) x y h = go (is_key x.key q) refl
   where
-    at : Bool → Type 0
-    at b = IsKnown t (Some (if b then InTree.One q else InTree.More)) (with_kept ks k)
+    go : (t : Bool) → is_key x.key q ≡ t → y.key.aaid ≡ x.key.aaid
+    go true e = let wrong : None ≡ Some y = grind (arith, e, h) in absurd (cc (wrong))
+    go false e = let same : x ≡ y = grind (arith, e, h) in ap (λ (z : Kept). z.key.aaid) (sym same)
 
-    go : (b : Bool) → is_key q k.key ≡ b → at (is_key q k.key)
-    go true e = subst at (sym e) (h.0, one_put ks k q (key_same q k.key e) h.1)
-    go false e = subst at (sym e) tt
-
-pub known_put : (es fs : List (KeptKey × InTree)) (ks : List Kept) (k : Kept) → AreKnown es ks
-    → ((t : Aaid) → in_tree fs t ≡ cond (is_same_key (tree_key k.key.aaid) (tree_key t)) (Some (with_one (in_tree es k.key.aaid) k.key)) (in_tree es t))
-    → AreKnown fs (with_kept ks k)
-known_put es fs ks k h at = λ t. go t (is_aaid t k.key.aaid) refl
+tree_among : (all es : List (ℕ × Box Kept Global)) (c : Option Change) (t : Aaid) (b : Option BranchId) → AreFound all es
+    → first_in (changed_all c (listed es)) t b ≡ first_among all c b (ages_of es t)
+tree_among all [] c t b h = refl
+tree_among all (e ∷ es) c t b h = go (changed_one c e.1.value) refl (tree_among all es c t b h.1)
   where
-    now : Aaid → Bool → Option InTree
-    now t b = cond (b && true) (Some (with_one (in_tree es k.key.aaid) k.key)) (in_tree es t)
+    go : (o : Option Kept) → changed_one c e.1.value ≡ o → first_in (changed_all c (listed es)) t b ≡ first_among all c b (ages_of es t)
+        → first_in (changed_all c (listed (e ∷ es))) t b ≡ first_among all c b (ages_of (e ∷ es) t)
+    go None f rest = let own = h.0 in grind (arith, f, rest, own)
+    go (Some x) f rest =
+        let own = h.0 in
+        let same = ap (λ a. is_aaid a t) (changed_tree c e.1.value x f) in
+        grind (arith, f, rest, own, same)
 
-    go : (t : Aaid) (b : Bool) → is_aaid t k.key.aaid ≡ b → IsKnown t (in_tree fs t) (of_tree (with_kept ks k) t)
-    go t true e =
-        let same : t ≡ k.key.aaid = aaid_same t k.key.aaid e in
-        let own : is_aaid k.key.aaid t ≡ true = ap (λ a. is_aaid a t) (sym same) ∙ aaid_self t in
-        let is : in_tree fs t ≡ Some (with_one (in_tree es t) k.key) = at t ∙ ap (now t) e ∙ ap (λ a. Some (with_one (in_tree es a) k.key)) (sym same) in
-        subst (λ w. IsKnown t w (of_tree (with_kept ks k) t)) (sym is)
-        (subst (λ l. IsKnown t (Some (with_one (in_tree es t) k.key)) l) (sym (put_there ks k t own)) (known_more t (in_tree es t) (of_tree ks t) k (sym same) (h t)))
-    go t false e =
-        subst (λ w. IsKnown t w (of_tree (with_kept ks k) t)) (sym (at t ∙ ap (now t) e))
-        (subst (λ l. IsKnown t (in_tree es t) l) (sym (put_elsewhere ks k t (aaid_either t k.key.aaid e))) (h t))
+pub tree_found : (es : List (ℕ × Box Kept Global)) (c : Option Change) (t : Aaid) (b : Option BranchId) → Ascend es
+    → first_in (changed_all c (listed es)) t b ≡ first_among es c b (ages_of es t)
+tree_found es c t b h = tree_among es es c t b (all_found es h)
 
--- ---- one taken away
+-- ---- after a change
 
-none_fewer : (ks : List Kept) (p : ℕ) (t : Aaid) → of_tree ks t ≡ [] → of_tree (remove ks p) t ≡ []
-none_fewer [] zero t h = h
-none_fewer [] (suc p) t h = h
-none_fewer (x ∷ ks) p t h = go (is_aaid x.key.aaid t) refl p (λ q. none_fewer ks q t)
+pub ages_replaced : (es : List (ℕ × Box Kept Global)) (b : Box Kept Global) (a : ℕ) (t : Aaid) → Ascend es → age_of es b.value.key ≡ Some a
+    → ages_of (set_value (is_at (nat_cmp a)) es b) t ≡ ages_of es t
+ages_replaced [] b a t h is = refl
+ages_replaced (e ∷ es) b a t h is = go (is_key e.1.value.key b.value.key) refl (ages_replaced es b a t h.1)
   where
-    kept_if : Bool → List Kept → List Kept
-    kept_if b l = if b then x ∷ l else l
+    go : (c : Bool) → is_key e.1.value.key b.value.key ≡ c → (age_of es b.value.key ≡ Some a → ages_of (set_value (is_at (nat_cmp a)) es b) t ≡ ages_of es t)
+        → ages_of (set_value (is_at (nat_cmp a)) (e ∷ es) b) t ≡ ages_of (e ∷ es) t
+    go true f rest =
+        let same : e.0 ≡ a = grind (arith, f, is) in
+        let own = subst (λ m. is_at (nat_cmp m) e.0 ≡ true) same (at_itself e.0) in
+        let tree = ap (λ (k : NodeKey). is_aaid k.aaid t) (key_same e.1.value.key b.value.key f) in
+        grind (arith, own, tree)
+    go false f rest =
+        let tail : age_of es b.value.key ≡ Some a = grind (arith, f, is) in
+        let other = at_above e.0 a (age_above es b.value.key e.0 a h.0 tail) in
+        let left = rest tail in
+        grind (arith, other, left)
 
-    go : (b : Bool) → is_aaid x.key.aaid t ≡ b → (q : ℕ) → ((r : ℕ) → of_tree ks t ≡ [] → of_tree (remove ks r) t ≡ []) → of_tree (remove (x ∷ ks) q) t ≡ []
-    go true e q rest = let wrong : x ∷ of_tree ks t ≡ [] = sym (ap (λ b. kept_if b (of_tree ks t)) e) ∙ h in absurd (cc (wrong))
-    go false e zero rest = sym (ap (λ b. kept_if b (of_tree ks t)) e) ∙ h
-    go false e (suc q) rest = ap (λ b. kept_if b (of_tree (remove ks q) t)) e ∙ rest q (sym (ap (λ b. kept_if b (of_tree ks t)) e) ∙ h)
+ages_above : (es : List (ℕ × Box Kept Global)) (a : ℕ) (t : Aaid) → AreAbove a es → without_age (ages_of es t) a ≡ ages_of es t
+ages_above [] a t h = refl
+ages_above (e ∷ es) a t h = let rest = ages_above es a t h.1 in let less = h.0 in grind (arith, nat_tests, rest, less)
 
--- one is all
-one_all : (k : NodeKey) (x : Kept) (ks : List Kept) → AreOne k (x ∷ ks) → (x.key ≡ k) × (ks ≡ [])
-one_all k x [] h = (h, refl)
-one_all k x (y ∷ ks) h = absurd h
-
-one_fewer : (ks : List Kept) (p : ℕ) (t : Aaid) (k : NodeKey) → AreOne k (of_tree ks t) → AreOne k (of_tree (remove ks p) t)
-one_fewer [] zero t k h = h
-one_fewer [] (suc p) t k h = h
-one_fewer (x ∷ ks) p t k h = go (is_aaid x.key.aaid t) refl p (λ q. one_fewer ks q t k)
+pub ages_removed : (es : List (ℕ × Box Kept Global)) (q : NodeKey) (a : ℕ) (t : Aaid) → Ascend es → age_of es q ≡ Some a
+    → ages_of (remove_entry (is_at (nat_cmp a)) es) t ≡ cond (is_aaid q.aaid t) (without_age (ages_of es t) a) (ages_of es t)
+ages_removed [] q a t h is = absurd (cc is)
+ages_removed (e ∷ es) q a t h is = go (is_key e.1.value.key q) refl (ages_removed es q a t h.1)
   where
-    kept_if : List Kept → Bool → List Kept
-    kept_if l b = if b then x ∷ l else l
+    go : (c : Bool) → is_key e.1.value.key q ≡ c
+        → (age_of es q ≡ Some a → ages_of (remove_entry (is_at (nat_cmp a)) es) t ≡ cond (is_aaid q.aaid t) (without_age (ages_of es t) a) (ages_of es t))
+        → ages_of (remove_entry (is_at (nat_cmp a)) (e ∷ es)) t ≡ cond (is_aaid q.aaid t) (without_age (ages_of (e ∷ es) t) a) (ages_of (e ∷ es) t)
+    go true f rest =
+        let same : e.0 ≡ a = grind (arith, f, is) in
+        let own = subst (λ m. is_at (nat_cmp m) e.0 ≡ true) same (at_itself e.0) in
+        let tree = ap (λ (k : NodeKey). is_aaid k.aaid t) (key_same e.1.value.key q f) in
+        let above = ages_above es a t (subst (λ m. AreAbove m es) same h.0) in
+        grind (arith, nat_tests, own, tree, above, same)
+    go false f rest =
+        let tail : age_of es q ≡ Some a = grind (arith, f, is) in
+        let less = age_above es q e.0 a h.0 tail in
+        let other = at_above e.0 a less in
+        let left = rest tail in
+        grind (arith, nat_tests, other, left, less)
 
-    go : (b : Bool) → is_aaid x.key.aaid t ≡ b → (q : ℕ) → ((r : ℕ) → AreOne k (of_tree ks t) → AreOne k (of_tree (remove ks r) t)) → AreOne k (of_tree (remove (x ∷ ks) q) t)
-    go true e zero rest = subst (AreOne k) (sym (one_all k x (of_tree ks t) (subst (λ b. AreOne k (kept_if (of_tree ks t) b)) e h)).1) tt
-    go true e (suc q) rest =
-        let all = one_all k x (of_tree ks t) (subst (λ b. AreOne k (kept_if (of_tree ks t) b)) e h) in
-        subst (λ b. AreOne k (kept_if (of_tree (remove ks q) t) b)) (sym e) (subst (λ l. AreOne k (x ∷ l)) (sym (none_fewer ks q t all.1)) all.0)
-    go false e zero rest = subst (λ b. AreOne k (kept_if (of_tree ks t) b)) e h
-    go false e (suc q) rest = subst (λ b. AreOne k (kept_if (of_tree (remove ks q) t) b)) (sym e) (rest q (subst (λ b. AreOne k (kept_if (of_tree ks t) b)) e h))
+pub insert_behind : (es : List (ℕ × Box Kept Global)) (a : ℕ) (b : Box Kept Global) → AreBelow es a → insert_entry nat_cmp es a b ≡ es ++ (a, b) ∷ []
+insert_behind [] a b h = refl
+insert_behind (e ∷ es) a b h = let less = h.0 in let rest = insert_behind es a b h.1 in grind (arith, nat_tests, less, rest)
 
-pub known_removed : (es : List (KeptKey × InTree)) (ks : List Kept) (p : ℕ) → AreKnown es ks → AreKnown es (remove ks p)
-known_removed es ks p h = λ t. go t (in_tree es t) (h t)
+pub listed_behind : (es : List (ℕ × Box Kept Global)) (a : ℕ) (b : Box Kept Global) → listed (es ++ (a, b) ∷ []) ≡ listed es ++ b.value ∷ []
+listed_behind [] a b = refl
+listed_behind (e ∷ es) a b = ap (λ (l : List Kept). e.1.value ∷ l) (listed_behind es a b)
+
+pub ages_behind : (es : List (ℕ × Box Kept Global)) (a : ℕ) (b : Box Kept Global) (t : Aaid)
+    → ages_of (es ++ (a, b) ∷ []) t ≡ cond (is_aaid b.value.key.aaid t) (ages_of es t ++ a ∷ []) (ages_of es t)
+ages_behind [] a b t = grind arith
+ages_behind (e ∷ es) a b t = grind (arith, ages_behind es a b t)
+
+ages_below : (es : List (ℕ × Box Kept Global)) (a : ℕ) (t : Aaid) → AreBelow es a → without_age (ages_of es t ++ a ∷ []) a ≡ ages_of es t
+ages_below [] a t h = grind (arith, nat_tests)
+ages_below (e ∷ es) a t h = let rest = ages_below es a t h.1 in let less = h.0 in grind (arith, nat_tests, rest, less)
+
+-- ---- what is noted
+
+cond_same : {X : Type 0} (b : Bool) (x y : X) → (b ≡ true → x ≡ y) → cond b x y ≡ y
+cond_same true x y h = h refl
+cond_same false x y h = refl
+
+-- nothing is noted of the tree
+pub none_noted : (ts : List (TreeKey × Vec ℕ Global)) (a : Aaid) (n : ℕ) → None ≡ lookup (is_tree (tree_key a)) ts
+    → (t : Aaid) → ages_in ts t ≡ cond (is_aaid a t) (without_age (ages_in ts a) n) (ages_in ts t)
+none_noted ts a n is t =
+    let none : ages_in ts a ≡ [] = sym (ap ages_listed is) in
+    sym (cond_same (is_aaid a t) (without_age (ages_in ts a) n) (ages_in ts t) (λ e. ap (λ l. without_age l n) none ∙ sym none ∙ ap (ages_in ts) (aaid_same a t e)))
+
+-- the same is noted of the tree
+pub same_noted : (old new : List (TreeKey × Vec ℕ Global)) (a : Aaid) (v w : Vec ℕ Global) → Some v ≡ lookup (is_tree (tree_key a)) old → w.items ≡ v.items
+    → ((q : TreeKey) → lookup (is_tree q) new ≡ cond (is_tree (tree_key a) q) (Some w) (lookup (is_tree q) old))
+    → (t : Aaid) → ages_in new t ≡ ages_in old t
+same_noted old new a v w is same at t =
+    noted_at old new a (Some w) at t ∙ cond_same (is_aaid a t) w.items (ages_in old t) (λ e. same ∙ ap ages_listed is ∙ ap (ages_in old) (aaid_same a t e))
+
+pub set_absent : (es : List (ℕ × Box Kept Global)) (a : ℕ) (b : Box Kept Global) → at_age es a ≡ None → es ≡ set_value (is_at (nat_cmp a)) es b
+set_absent [] a b h = refl
+set_absent (e ∷ es) a b h = grind (arith, h, set_absent es a b)
+
+pub all_below : (es : List (ℕ × Box Kept Global)) (a : ℕ) → All (λ q. is_lt (nat_cmp a q) ≡ false) (keys_of es) → AreBelow es (a + 1)
+all_below [] a h = tt
+all_below (e ∷ es) a h =
+    (let less = All-head (λ q. is_lt (nat_cmp a q) ≡ false) e.0 (keys_of es) h in grind (arith, nat_tests, less), all_below es a (All-tail (λ q. is_lt (nat_cmp a q) ≡ false) e.0 (keys_of es) h))
+
+-- ---- the table with the ages that are noted of it
+
+pub indexed_put : (es fs : List (ℕ × Box Kept Global)) (ts : List (TreeKey × Vec ℕ Global)) (b : Box Kept Global) (a : ℕ) → IsIndexed es ts × AreSingle (listed es) → age_of es b.value.key ≡ Some a
+    → fs ≡ set_value (is_at (nat_cmp a)) es b → IsStrictlySortedBy nat_cmp (keys_of fs) → (IsIndexed fs ts × AreSingle (listed fs)) × (listed fs ≡ with_kept (listed es) b.value)
+indexed_put es fs ts b a h is put sorted =
+    let up = ascends es h.0.0 in
+    let list : listed fs ≡ with_kept (listed es) b.value = ap listed put ∙ replaced es b a up is in
+    (((sorted, λ t. h.0.1 t ∙ sym (ap (λ l. ages_of l t) put ∙ ages_replaced es b a t up is)), subst AreSingle (sym list) (single_put (listed es) b.value h.1)), list)
+
+pub indexed_removed : (es fs : List (ℕ × Box Kept Global)) (ts us : List (TreeKey × Vec ℕ Global)) (q : NodeKey) (a : ℕ) → IsIndexed es ts × AreSingle (listed es) → age_of es q ≡ Some a
+    → fs ≡ remove_entry (is_at (nat_cmp a)) es → IsStrictlySortedBy nat_cmp (keys_of fs)
+    → ((t : Aaid) → ages_in us t ≡ cond (is_aaid q.aaid t) (without_age (ages_in ts q.aaid) a) (ages_in ts t)) → (IsIndexed fs us × AreSingle (listed fs)) × (listed fs ≡ without_kept (listed es) q)
+indexed_removed es fs ts us q a h is gone sorted at =
+    let up = ascends es h.0.0 in
+    let list : listed fs ≡ without_kept (listed es) q = ap listed gone ∙ removed es q a up is in (
+      (
+        (
+          sorted,
+          λ t. at t ∙ ap (λ l. cond (is_aaid q.aaid t) (without_age l a) (ages_in ts t)) (h.0.1 q.aaid)
+              ∙ ap (λ l. cond (is_aaid q.aaid t) (without_age (ages_of es q.aaid) a) l) (h.0.1 t)
+              ∙ turned (is_aaid q.aaid t) t refl ∙ sym (ap (λ l. ages_of l t) gone ∙ ages_removed es q a t up is),
+        ),
+        subst AreSingle (sym list) (single_removed (listed es) q h.1),
+      ),
+      list,
+    )
   where
-    go : (t : Aaid) (w : Option InTree) → IsKnown t w (of_tree ks t) → IsKnown t w (of_tree (remove ks p) t)
-    go t None is = none_fewer ks p t is
-    go t (Some InTree.More) is = tt
-    go t (Some (InTree.One k)) is = (is.0, one_fewer ks p t k is.1)
+    turned : (b : Bool) (t : Aaid) → is_aaid q.aaid t ≡ b → cond b (without_age (ages_of es q.aaid) a) (ages_of es t) ≡ cond b (without_age (ages_of es t) a) (ages_of es t)
+    turned true t e = ap (λ x. without_age (ages_of es x) a) (aaid_same q.aaid t e)
+    turned false t e = refl
 
-pub known_over : (es fs : List (KeptKey × InTree)) (ks : List Kept) (a : Aaid) → AreKnown es ks → of_tree ks a ≡ []
-    → ((t : Aaid) → in_tree fs t ≡ cond (is_same_key (tree_key a) (tree_key t)) None (in_tree es t)) → AreKnown fs ks
-known_over es fs ks a h over at = λ t. go t (is_aaid t a) refl
+pub indexed_behind : (es fs : List (ℕ × Box Kept Global)) (ts us : List (TreeKey × Vec ℕ Global)) (b : Box Kept Global) (a : ℕ) → IsIndexed es ts × AreSingle (listed es)
+    → age_of es b.value.key ≡ None → AreBelow es a
+    → fs ≡ insert_entry nat_cmp es a b → IsStrictlySortedBy nat_cmp (keys_of fs)
+    → ((t : Aaid) → ages_in us t ≡ cond (is_aaid b.value.key.aaid t) (ages_in ts b.value.key.aaid ++ a ∷ []) (ages_in ts t)) → (IsIndexed fs us × AreSingle (listed fs)) × (listed fs ≡ with_kept (listed es) b.value)
+indexed_behind es fs ts us b a h none below put sorted at =
+    let all : fs ≡ es ++ (a, b) ∷ [] = put ∙ insert_behind es a b below in
+    let list : listed fs ≡ with_kept (listed es) b.value = ap listed all ∙ listed_behind es a b ∙ put_behind es b.value none in (
+      (
+        (
+          sorted,
+          λ t. at t ∙ ap (λ l. cond (is_aaid b.value.key.aaid t) (l ++ a ∷ []) (ages_in ts t)) (h.0.1 b.value.key.aaid)
+              ∙ ap (λ l. cond (is_aaid b.value.key.aaid t) (ages_of es b.value.key.aaid ++ a ∷ []) l) (h.0.1 t)
+              ∙ turned (is_aaid b.value.key.aaid t) t refl ∙ sym (ap (λ l. ages_of l t) all ∙ ages_behind es a b t),
+        ),
+        subst AreSingle (sym list) (single_put (listed es) b.value h.1),
+      ),
+      list,
+    )
   where
-    now : Aaid → Bool → Option InTree
-    now t b = cond (b && true) None (in_tree es t)
+    turned : (c : Bool) (t : Aaid) → is_aaid b.value.key.aaid t ≡ c → cond c (ages_of es b.value.key.aaid ++ a ∷ []) (ages_of es t) ≡ cond c (ages_of es t ++ a ∷ []) (ages_of es t)
+    turned true t e = ap (λ x. ages_of es x ++ a ∷ []) (aaid_same b.value.key.aaid t e)
+    turned false t e = refl
 
-    go : (t : Aaid) (b : Bool) → is_aaid t a ≡ b → IsKnown t (in_tree fs t) (of_tree ks t)
-    go t true e = subst (λ w. IsKnown t w (of_tree ks t)) (sym (at t ∙ ap (now t) e)) (ap (of_tree ks) (aaid_same t a e) ∙ over)
-    go t false e = subst (λ w. IsKnown t w (of_tree ks t)) (sym (at t ∙ ap (now t) e)) (h t)
-
--- ---- the entries with what is known of their trees
-
-pub kept_put : (es fs : List (KeptKey × Kept)) (ts us : List (KeptKey × InTree)) (k : Kept) → AreKeyed es × AreKnown ts (listed es) → fs ≡ insert_entry is_same_key es (key_of k.key) k
-    → ((t : Aaid) → in_tree us t ≡ cond (is_same_key (tree_key k.key.aaid) (tree_key t)) (Some (with_one (in_tree ts k.key.aaid) k.key)) (in_tree ts t))
-    → AreKeyed fs × AreKnown us (listed fs)
-kept_put es fs ts us k h put at =
-    subst (λ l. AreKeyed l × AreKnown us (listed l)) (sym put)
-    (keyed_put es k h.0, subst (AreKnown us) (sym (listed_put es k h.0)) (known_put ts us (listed es) k h.1 at))
-
-pub kept_removed : (es fs : List (KeptKey × Kept)) (ts : List (KeptKey × InTree)) (p : ℕ) → AreKeyed es × AreKnown ts (listed es) → fs ≡ remove es p → AreKeyed fs × AreKnown ts (listed fs)
-kept_removed es fs ts p h gone =
-    subst (λ l. AreKeyed l × AreKnown ts (listed l)) (sym gone)
-    (keyed_removed es p h.0, subst (AreKnown ts) (sym (listed_removed es p)) (known_removed ts (listed es) p h.1))
-
-pub list_removed : (es fs : List (KeptKey × Kept)) (ks : List Kept) (p : ℕ) → listed es ≡ ks → fs ≡ remove es p → listed fs ≡ remove ks p
-list_removed es fs ks p is gone = ap listed gone ∙ listed_removed es p ∙ ap (λ (l : List Kept). remove l p) is
-
--- ---- the only one, by its place
-
-pub alone_past : (ks : List Kept) (p : ℕ) → length ks ≤ p → alone ks p ≡ []
-alone_past [] p h = refl
-alone_past (x ∷ ks) zero h = absurd (omega (arith, h))
-alone_past (x ∷ ks) (suc p) h = alone_past ks p (omega (arith, h))
-
-one_there : (ks : List Kept) (k : NodeKey) → AreOne k (of_tree ks k.aaid) → of_tree ks k.aaid ≡ alone ks (place_of_key ks k)
-one_there [] k h = refl
-one_there (x ∷ ks) k h = go (is_aaid x.key.aaid k.aaid) refl (one_there ks k)
+-- what was noted is forgotten again
+pub indexed_back : (es fs : List (ℕ × Box Kept Global)) (ts us vs : List (TreeKey × Vec ℕ Global)) (k : Aaid) (a : ℕ) → IsIndexed es ts → AreBelow es a → fs ≡ es
+    → ((t : Aaid) → ages_in us t ≡ cond (is_aaid k t) (ages_in ts k ++ a ∷ []) (ages_in ts t))
+    → ((t : Aaid) → ages_in vs t ≡ cond (is_aaid k t) (without_age (ages_in us k) a) (ages_in us t)) → IsIndexed fs vs
+indexed_back es fs ts us vs k a h below same at back = subst (λ l. IsIndexed l vs) (sym same) (h.0, λ t. back t ∙ turned t ∙ h.1 t)
   where
-    kept_if : List Kept → Bool → List Kept
-    kept_if l b = if b then x ∷ l else l
+    own : ages_in us k ≡ ages_in ts k ++ a ∷ []
+    own = at k ∙ ap (λ b. cond b (ages_in ts k ++ a ∷ []) (ages_in ts k)) (aaid_self k)
 
-    at : Bool → List Kept
-    at b = alone (x ∷ ks) (if b then 0 else suc (place_of_key ks k))
+    again : without_age (ages_in us k) a ≡ ages_in ts k
+    again = ap (λ l. without_age l a) (own ∙ ap (λ l. l ++ a ∷ []) (h.1 k)) ∙ ages_below es a k below ∙ sym (h.1 k)
 
-    go : (b : Bool) → is_aaid x.key.aaid k.aaid ≡ b → (AreOne k (of_tree ks k.aaid) → of_tree ks k.aaid ≡ alone ks (place_of_key ks k)) → of_tree (x ∷ ks) k.aaid ≡ alone (x ∷ ks) (place_of_key (x ∷ ks) k)
-    go true e rest =
-        let all = one_all k x (of_tree ks k.aaid) (subst (λ b. AreOne k (kept_if (of_tree ks k.aaid) b)) e h) in
-        let own : is_key x.key k ≡ true = ap (λ (y : NodeKey). is_key y k) all.0 ∙ key_self k in
-        ap (kept_if (of_tree ks k.aaid)) e ∙ ap (λ (l : List Kept). x ∷ l) all.1 ∙ sym (ap at own)
-    go false e rest =
-        let other : is_key x.key k ≡ false = grind (arith, e) in
-        ap (kept_if (of_tree ks k.aaid)) e ∙ rest (subst (λ b. AreOne k (kept_if (of_tree ks k.aaid) b)) e h) ∙ sym (ap at other)
+    turned : (t : Aaid) → cond (is_aaid k t) (without_age (ages_in us k) a) (ages_in us t) ≡ ages_in ts t
+    turned t = go (is_aaid k t) refl
+      where
+        go : (b : Bool) → is_aaid k t ≡ b → cond (is_aaid k t) (without_age (ages_in us k) a) (ages_in us t) ≡ ages_in ts t
+        go true e = ap (λ b. cond b (without_age (ages_in us k) a) (ages_in us t)) e ∙ again ∙ ap (ages_in ts) (aaid_same k t e)
+        go false e = ap (λ b. cond b (without_age (ages_in us k) a) (ages_in us t)) e ∙ at t ∙ ap (λ b. cond b (ages_in ts k ++ a ∷ []) (ages_in ts t)) e
 
-pub nobody_known : (es : List (KeptKey × InTree)) (ks : List Kept) (t : Aaid) → AreKnown es ks → None ≡ in_tree es t → of_tree ks t ≡ alone ks (length ks)
-nobody_known es ks t h is = let over : of_tree ks t ≡ [] = subst (λ w. IsKnown t w (of_tree ks t)) (sym is) (h t) in over ∙ sym (alone_past ks (length ks) (omega arith))
+-- ---- the ages are gone over
 
-pub one_known : (es : List (KeptKey × InTree)) (ks : List Kept) (t : Aaid) (k : NodeKey) → AreKnown es ks → Some (InTree.One k) ≡ in_tree es t → of_tree ks t ≡ alone ks (place_of_key ks k)
-one_known es ks t k h is =
-    let known : IsKnown t (Some (InTree.One k)) (of_tree ks t) = subst (λ w. IsKnown t w (of_tree ks t)) (sym is) (h t) in
-    ap (of_tree ks) (sym known.0) ∙ one_there ks k (subst (λ a. AreOne k (of_tree ks a)) (sym known.0) known.1)
+drop_next : (ns : List ℕ) (i : ℕ) → i < length ns → drop i ns ≡ get_or ns i 0 ∷ drop (i + 1) ns
+drop_next [] i h = absurd (omega (arith, h))
+drop_next (n ∷ ns) zero h = refl
+drop_next (n ∷ ns) (suc i) h = drop_next ns i (omega (arith, h)) ∙ ap (λ (m : ℕ). get_or ns i 0 ∷ drop m (n ∷ ns)) (let same : suc (i + 1) ≡ suc i + 1 = omega arith in same)
+
+pub age_next : (es : List (ℕ × Box Kept Global)) (q : NodeKey) (ns : List ℕ) (i : ℕ) → i < length ns → has_key es q (get_or ns i 0) ≡ false → age_among es q (drop i ns) ≡ age_among es q (drop (i + 1) ns)
+age_next es q ns i h is = ap (age_among es q) (drop_next ns i h) ∙ ap (λ (b : Bool). if b then Some (get_or ns i 0) else age_among es q (drop (i + 1) ns)) is
+
+pub first_at : (es : List (ℕ × Box Kept Global)) (c : Option Change) (b : Option BranchId) (ns : List ℕ) (i : ℕ) (o : Option NodeKey) → i < length ns → owing_at es c b (get_or ns i 0) ≡ o
+    → first_among es c b (drop i ns) ≡ elim o as (λ _. Option NodeKey) [ None ↦ first_among es c b (drop (i + 1) ns) | Some k ↦ Some k ]
+first_at es c b ns i o h is =
+    ap (first_among es c b) (drop_next ns i h) ∙ ap (λ (x : Option NodeKey). elim x as (λ _. Option NodeKey) [ None ↦ first_among es c b (drop (i + 1) ns) | Some k ↦ Some k ]) is
 
 -- ---- the first that is asked for
-
-first_none : (ks : List Kept) (t : Aaid) (b : Option BranchId) → of_tree ks t ≡ [] → first_in ks t b ≡ None
-first_none [] t b h = refl
-first_none (x ∷ ks) t b h = go (is_aaid x.key.aaid t) refl (first_none ks t b)
-  where
-    kept_if : Bool → List Kept
-    kept_if c = if c then x ∷ of_tree ks t else of_tree ks t
-
-    go : (c : Bool) → is_aaid x.key.aaid t ≡ c → (of_tree ks t ≡ [] → first_in ks t b ≡ None) → first_in (x ∷ ks) t b ≡ None
-    go true e rest = let wrong : x ∷ of_tree ks t ≡ [] = sym (ap kept_if e) ∙ h in absurd (cc (wrong))
-    go false e rest = let tail : first_in ks t b ≡ None = rest (sym (ap kept_if e) ∙ h) in grind (arith, e, tail)
-
-first_only : (ks : List Kept) (t : Aaid) (b : Option BranchId) (y : Kept) → of_tree ks t ≡ y ∷ [] → first_in ks t b ≡ if owes y b then Some y.key else None
-first_only [] t b y h = absurd (cc (h))
-first_only (x ∷ ks) t b y h = go (is_aaid x.key.aaid t) refl (first_only ks t b y)
-  where
-    kept_if : Bool → List Kept
-    kept_if c = if c then x ∷ of_tree ks t else of_tree ks t
-
-    go : (c : Bool) → is_aaid x.key.aaid t ≡ c → (of_tree ks t ≡ y ∷ [] → first_in ks t b ≡ if owes y b then Some y.key else None) → first_in (x ∷ ks) t b ≡ if owes y b then Some y.key else None
-    go true e rest =
-        let all : x ∷ of_tree ks t ≡ y ∷ [] = sym (ap kept_if e) ∙ h in
-        let same : x ≡ y = cc (all) in
-        let over : of_tree ks t ≡ [] = cc (all) in
-        let tail = first_none ks t b over in
-        grind (arith, e, same, tail)
-    go false e rest = let tail : first_in ks t b ≡ (if owes y b then Some y.key else None) = rest (sym (ap kept_if e) ∙ h) in grind (arith, e, tail)
-
-first_alone : (ks : List Kept) (t : Aaid) (b : Option BranchId) (p : ℕ) (y : Kept) → of_tree ks t ≡ alone ks p → Some y ≡ slice_get ks p → first_in ks t b ≡ if owes y b then Some y.key else None
-first_alone ks t b p y h is = first_only ks t b y (h ∙ ap (λ (o : Option Kept). elim o as (λ _. List Kept) [ None ↦ [] | Some x ↦ x ∷ [] ]) (sym is))
-
-pub first_owes : (ks : List Kept) (t : Aaid) (b : Option BranchId) (p : ℕ) (y : Kept) → of_tree ks t ≡ alone ks p → Some y ≡ slice_get ks p → owes y b ≡ true → Some y.key ≡ first_in ks t b
-first_owes ks t b p y h is owed = sym (first_alone ks t b p y h is ∙ ap (λ (c : Bool). if c then Some y.key else None) owed)
-
-pub first_owes_not : (ks : List Kept) (t : Aaid) (b : Option BranchId) (p : ℕ) (y : Kept) → of_tree ks t ≡ alone ks p → Some y ≡ slice_get ks p → owes y b ≡ false → None ≡ first_in ks t b
-first_owes_not ks t b p y h is owed = sym (first_alone ks t b p y h is ∙ ap (λ (c : Bool). if c then Some y.key else None) owed)
-
-pub first_nobody : (ks : List Kept) (t : Aaid) (b : Option BranchId) (p : ℕ) → of_tree ks t ≡ alone ks p → None ≡ slice_get ks p → first_in ks t b ≡ None
-first_nobody ks t b p h is = first_none ks t b (h ∙ ap (λ (o : Option Kept). elim o as (λ _. List Kept) [ None ↦ [] | Some x ↦ x ∷ [] ]) (sym is))
 
 pub first_owing : (ks : List Kept) (t : Aaid) (b : BranchId) → first_in ks t (Some b) ≡ kept_owing ks t b
 first_owing [] t b = refl

@@ -1,4 +1,4 @@
-pub mod KeptEntries
+pub mod KeptAges
 pub mod KeptPlaces
 pub mod KeptTrees
 pub mod Chained

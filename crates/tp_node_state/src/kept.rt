@@ -3,6 +3,7 @@ ghost use Rattle.std.specs.Prelude.{◌≡◌, ◌||◌, IfOk, OnOk, OnErr};
 ghost use Rattle.std.specs.Option.{option_copied};
 ghost use Rattle.tp_model.specs.Recovery.{is_commit, with_forget, noted, kept_by, put_kept, find_owed};
 ghost use Rattle.tp_model.specs.declared.recovery.KeptEvent.{KeptEvent};
+ghost use Rattle.tp_node_state.specs.Kept.{owes};
 
 use crate::kept_table::KeptTable;
 use std::alloc::Global;
@@ -80,18 +81,14 @@ pub fn note_forget(alloc: Global, kept: &mut KeptTable, key: &NodeKey) -> Result
     kept.put(alloc, next)
 }
 
-/// Equal ones, in order.
-pub fn copies(alloc: Global, kept: &KeptTable) -> Result<Vec<Kept>, NoMemory>
-    ensures { IfOk result (λ copies. copies.items ≡ kept.now) }
+/// The branch is owed, where one is asked for.
+pub(crate) fn owes(kept: &Kept, branch: &Option<BranchId>) -> bool
+    ensures { result ≡ owes kept.now branch.now }
 {
-    let mut copies = Vec::new(alloc);
-    for place in 0..kept.len() {
-        let Some(one) = kept.get(place) else {
-            unreachable!()
-        };
-        copies.push(copy(alloc, one)?)?;
+    match branch {
+        None => true,
+        Some(branch) => find_owed(kept.owed.as_slice(), branch).is_some(),
     }
-    Ok(copies)
 }
 
 /// What a record makes of the kept transactions: a Damage keeps its key, and an End lets it go. Without memory nothing changes.

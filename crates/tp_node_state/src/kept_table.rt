@@ -1,10 +1,12 @@
 //! The kept transactions of a node, which its copies share.
-ghost use Rattle.std.specs.Prelude.{◌≡◌, ◌<◌, ◌^◌, length, slice_get, [], Some, IfSome, IfOk, OnOk, OnErr};
-ghost use Rattle.std.specs.Option.{option_copied};
+ghost use Rattle.std.specs.Prelude.{◌≡◌, ◌<◌, ◌^◌, ◌++◌, length, slice_get, [], IfOk, OnOk, OnErr};
+ghost use Rattle.std.specs.Option.{option_copied, option_to_list};
 ghost use Rattle.tp_model.specs.Recovery.{find_kept, without_kept};
-ghost use Rattle.tp_node_state.specs.Kept.{with_kept, place_of_key, of_tree, alone, owes, first_in};
-ghost use Rattle.tp_node_state.specs.KeptTable.{shared_list, changed, IsPlacedIn, AreSame};
+ghost use Rattle.tp_node_state.specs.Kept.{with_kept, first_in, AreSingle};
+ghost use Rattle.tp_node_state.specs.Changes.{changed, changed_all, newcomer, first_put, first_removed, AreSame};
+ghost use Rattle.tp_node_state.specs.KeptTable.{shared_list};
 
+use crate::change::Change;
 use crate::kept;
 use crate::kept_map::KeptMap;
 use std::alloc::Global;
@@ -13,15 +15,6 @@ use std::sync::Arc;
 use tp_model::Kept;
 use tp_names::same::{is_aaid, is_key};
 use tp_names::{Aaid, BranchId, NoMemory, NodeKey};
-
-/// A change that waits, with its place among those that are shared.
-#[derive(Debug, Drop)]
-enum Change {
-    /// It takes the place of the one with its key, or stands after the others.
-    Put { place: usize, kept: Box<Kept> },
-    /// The one at that place is taken away.
-    Remove { place: usize },
-}
 
 /// The kept transactions of a node, in the order of their age. A copy of the node shares them with it, whatever their
 /// number: a change of one of them waits beside them, until nobody else has them and it is carried out. An event changes
@@ -35,13 +28,11 @@ pub struct KeptTable {
 impl Model for KeptTable {
     ghost use Rattle.std.specs.Prelude.{List};
     ghost use Rattle.tp_model.specs.declared.recovery.Kept.{Kept as KeptValue};
-    ghost use Rattle.tp_node_state.specs.KeptTable.{table_of, IsPlaced};
+    ghost use Rattle.tp_node_state.specs.KeptTable.{table_of};
 
     ghost Value = { List KeptValue };
 
     ghost view = { table_of };
-
-    ghost invariant = { IsPlaced };
 }
 
 impl KeptTable {
@@ -71,109 +62,62 @@ impl KeptTable {
     }
 
     /// How many there are.
-    #[tactic(auto, using(crate::proofs::KeptPlaces::put_same, crate::proofs::KeptPlaces::put_longer, crate::proofs::KeptPlaces::removed_shorter))]
+    #[tactic(auto, using(crate::proofs::KeptPlaces::put_same, crate::proofs::KeptPlaces::put_longer, crate::proofs::KeptPlaces::removed_shorter, crate::proofs::KeptPlaces::removed_nowhere))]
     pub fn len(&self) -> usize
         ensures { result ≡ length self.now }
     {
         let len = shared_len(&self.shared);
         match &self.change {
             None => len,
-            Some(Change::Put { place, .. }) => if *place < len { len } else { len + 1 },
-            Some(Change::Remove { .. }) => len - 1,
+            Some(Change::Put(kept)) => match shared_find(&self.shared, &kept.key) {
+                None => len + 1,
+                Some(_) => len,
+            },
+            Some(Change::Remove(key)) => match shared_find(&self.shared, key) {
+                None => len,
+                Some(_) => len - 1,
+            },
         }
     }
 
-    /// The one at that place.
-    #[tactic(auto, using(crate::proofs::KeptPlaces::put_here, crate::proofs::KeptPlaces::put_else, crate::proofs::KeptPlaces::removed_before, crate::proofs::KeptPlaces::removed_after, crate::proofs::KeptPlaces::none_past))]
-    pub fn get(&self, place: usize) -> Option<&Kept>
-        ensures { option_copied result ≡ slice_get self.now place }
+    /// The oldest.
+    #[tactic(auto, using(crate::proofs::KeptPlaces::put_first, crate::proofs::KeptPlaces::removed_first))]
+    pub fn oldest(&self) -> Option<&Kept>
+        ensures { option_copied result ≡ slice_get self.now 0 }
     {
+        let first = shared_at(&self.shared, 0);
         match &self.change {
-            None => shared_at(&self.shared, place),
-            Some(Change::Put { place: own, kept }) => {
-                if place == *own {
-                    Some(&**kept)
-                } else {
-                    shared_at(&self.shared, place)
-                }
-            }
-            Some(Change::Remove { place: own }) => {
-                if place < *own {
-                    shared_at(&self.shared, place)
-                } else if place < shared_len(&self.shared) {
-                    shared_at(&self.shared, place + 1)
-                } else {
-                    None
-                }
-            }
+            None => first,
+            Some(Change::Put(kept)) => first_put(first, kept),
+            Some(Change::Remove(key)) => first_removed(first, shared_at(&self.shared, 1), key),
         }
-    }
-
-    // The one with that key, among those that wait too.
-    #[tactic(auto, using(crate::proofs::KeptPlaces::from_place))]
-    fn seek(&self, key: &NodeKey) -> Option<&Kept>
-        ensures { option_copied result ≡ find_kept self.now key.now }
-    {
-        for place in 0..self.len() {
-            let one = self.get(place)?;
-            if is_key(&one.key, key) {
-                return Some(one);
-            }
-        }
-        None
     }
 
     /// The one with that key.
-    #[inline(always)]
+    #[tactic(auto, using(crate::proofs::KeptAges::put_own, crate::proofs::KeptAges::find_put, crate::proofs::KeptAges::removed_own, crate::proofs::KeptAges::removed_else))]
     pub fn find(&self, key: &NodeKey) -> Option<&Kept>
         ensures { option_copied result ≡ find_kept self.now key.now }
     {
-        match (&self.shared, &self.change) {
-            (None, None) => None,
-            (Some(all), None) => all.find(key),
-            _ => self.seek(key),
+        let found = shared_find(&self.shared, key);
+        match &self.change {
+            Some(Change::Put(kept)) if is_key(&kept.key, key) => Some(&**kept),
+            Some(Change::Remove(own)) if is_key(own, key) => None,
+            _ => found,
         }
-    }
-
-    // The place of the only one of the tree, or one after the others where there is none; none where there may be more.
-    fn place_in(&self, aaid: &Aaid) -> Option<usize>
-        ensures { IfSome result (λ place. of_tree self.now aaid.now ≡ alone self.now place) }
-    {
-        match (&self.shared, &self.change) {
-            (None, None) => Some(0),
-            (Some(all), None) => all.place_in(aaid),
-            _ => None,
-        }
-    }
-
-    // The key of the first of the tree, or of the first that owes the branch, among those that wait too.
-    #[tactic(auto, using(crate::proofs::KeptPlaces::from_place))]
-    fn seek_in(&self, aaid: &Aaid, branch: &Option<BranchId>) -> Option<NodeKey>
-        ensures { result ≡ first_in self.now aaid.now branch.now }
-    {
-        for place in 0..self.len() {
-            let one = self.get(place)?;
-            if is_aaid(&one.key.aaid, aaid) && owes(one, branch) {
-                return Some(one.key);
-            }
-        }
-        None
     }
 
     /// The key of the first of the tree; where a branch is asked for, of the first that owes it.
-    #[tactic(auto, using(crate::proofs::KeptTrees::first_nobody))]
     pub fn first_in(&self, aaid: &Aaid, branch: &Option<BranchId>) -> Option<NodeKey>
         ensures { result ≡ first_in self.now aaid.now branch.now }
     {
-        let Some(place) = self.place_in(aaid) else {
-            return self.seek_in(aaid, branch);
-        };
-        let one = self.get(place)?;
-        if owes(one, branch) {
-            Some(one.key)
-        } else {
-            None
-        }
+        first_of(&self.shared, &self.change, aaid, branch)
+    }
+
+    /// Equal ones, in order.
+    pub fn copies(&self, alloc: Global) -> Result<Vec<Kept>, NoMemory>
+        ensures { IfOk result (λ copies. copies.items ≡ self.now) }
+    {
+        copies_of(alloc, &self.shared, &self.change)
     }
 
     /// Takes the place of the one with its key, or stands after the others. Where a change of another key still waits for
@@ -185,12 +129,10 @@ impl KeptTable {
     {
         match &self.change {
             None => {}
-            Some(Change::Put { kept: own, .. }) if is_key(&own.key, &kept.key) => {}
+            Some(Change::Put(own)) if is_key(&own.key, &kept.key) => {}
             Some(_) => return Err(NoMemory),
         }
-        let place = shared_place(&self.shared, &kept.key);
-        let kept = Box::new(alloc, kept)?;
-        self.change = Some(Change::Put { place, kept });
+        self.change = Some(Change::Put(Box::new(alloc, kept)?));
         Ok(())
     }
 
@@ -203,7 +145,7 @@ impl KeptTable {
     {
         match &self.change {
             None => {}
-            Some(Change::Put { kept: own, .. }) if is_key(&own.key, key) => {}
+            Some(Change::Put(own)) if is_key(&own.key, key) => {}
             Some(_) => return Err(NoMemory),
         }
         self.change = removal(&self.shared, key);
@@ -226,7 +168,7 @@ impl KeptTable {
         let Some(all) = Arc::get_mut(shared) else {
             return;
         };
-        self.change = carry_out(all, self.change.take());
+        self.change = carry_out(alloc, all, self.change.take());
     }
 
     /// A change that waits is carried out where nobody else has them and there is memory. They are the same.
@@ -240,28 +182,17 @@ impl KeptTable {
     }
 }
 
-// The branch is owed, where one is asked for.
-fn owes(kept: &Kept, branch: &Option<BranchId>) -> bool
-    ensures { result ≡ owes kept.now branch.now }
-{
-    match branch {
-        None => true,
-        Some(branch) => kept::find_owed(kept.owed.as_slice(), branch).is_some(),
-    }
-}
-
 // A change is carried out; without memory it waits on.
-fn carry_out(all: &mut KeptMap, change: Option<Change>) -> Option<Change>
-    ensures same { changed all.new result ≡ changed all.old change }
-    ensures placed { IsPlacedIn all.old change → IsPlacedIn all.new result }
+fn carry_out(alloc: Global, all: &mut KeptMap, change: Option<Change>) -> Option<Change>
+    ensures { changed result all.new ≡ changed change all.old }
 {
     match change? {
-        Change::Put { place, kept } => match all.put(kept) {
+        Change::Put(kept) => match all.put(alloc, kept) {
             Ok(()) => None,
-            Err(kept) => Some(Change::Put { place, kept }),
+            Err(kept) => Some(Change::Put(kept)),
         },
-        Change::Remove { place } => {
-            all.remove(place);
+        Change::Remove(key) => {
+            all.remove(&key);
             None
         }
     }
@@ -271,31 +202,141 @@ fn copy_of(alloc: Global, change: &Change) -> Result<Change, NoMemory>
     ensures { IfOk result (λ copy. AreSame copy change.now) }
 {
     Ok(match change {
-        Change::Put { place, kept } => Change::Put {
-            place: *place,
-            kept: Box::new(alloc, kept::copy(alloc, kept)?)?,
-        },
-        Change::Remove { place } => Change::Remove { place: *place },
+        Change::Put(kept) => Change::Put(Box::new(alloc, kept::copy(alloc, kept)?)?),
+        Change::Remove(key) => Change::Remove(*key),
     })
 }
 
 // The one with that key is taken away, where there is one.
-#[tactic(auto, using(crate::proofs::KeptPlaces::removed_there, crate::proofs::KeptPlaces::removed_nowhere))]
+#[tactic(auto, using(crate::proofs::KeptPlaces::removed_nowhere))]
 fn removal(shared: &Option<Arc<KeptMap>>, key: &NodeKey) -> Option<Change>
-    ensures same { changed (shared_list shared.now) result ≡ without_kept (shared_list shared.now) key.now }
-    ensures placed { IsPlacedIn (shared_list shared.now) result }
+    ensures { changed result (shared_list shared.now) ≡ without_kept (shared_list shared.now) key.now }
 {
-    let place = shared_place(shared, key);
-    if place < shared_len(shared) {
-        Some(Change::Remove { place })
-    } else {
-        None
+    match shared_find(shared, key) {
+        None => None,
+        Some(_) => Some(Change::Remove(*key)),
+    }
+}
+
+// The one that is new.
+fn newcomer<'a>(shared: &Option<Arc<KeptMap>>, change: &'a Option<Change>) -> Option<&'a Kept>
+    ensures { option_copied result ≡ newcomer change.now (shared_list shared.now) }
+{
+    match change {
+        Some(Change::Put(kept)) => match shared_find(shared, &kept.key) {
+            None => Some(&**kept),
+            Some(_) => None,
+        },
+        _ => None,
+    }
+}
+
+// Its key, where it is of the tree and owes the branch.
+fn key_of(one: Option<&Kept>, aaid: &Aaid, branch: &Option<BranchId>) -> Option<NodeKey>
+    ensures { result ≡ first_in (option_to_list (option_copied one.entry)) aaid.now branch.now }
+{
+    match one {
+        Some(one) if is_aaid(&one.key.aaid, aaid) && kept::owes(one, branch) => Some(one.key),
+        _ => None,
+    }
+}
+
+// The key of the first of the tree, or of the first that owes the branch, with the change.
+fn first_of(
+    shared: &Option<Arc<KeptMap>>,
+    change: &Option<Change>,
+    aaid: &Aaid,
+    branch: &Option<BranchId>,
+) -> Option<NodeKey>
+    ensures { result ≡ first_in (changed change.now (shared_list shared.now)) aaid.now branch.now }
+{
+    match shared_first(shared, change, aaid, branch) {
+        Some(key) => Some(key),
+        None => key_of(newcomer(shared, change), aaid, branch),
+    }
+}
+
+// Equal ones, in order, with the change.
+#[tactic(auto, using(crate::proofs::KeptPlaces::copies_changed))]
+fn copies_of(
+    alloc: Global,
+    shared: &Option<Arc<KeptMap>>,
+    change: &Option<Change>,
+) -> Result<Vec<Kept>, NoMemory>
+    ensures { IfOk result (λ copies. copies.items ≡ changed change.now (shared_list shared.now)) }
+{
+    let mut copies = shared_copies(alloc, shared, change)?;
+    push(alloc, &mut copies, newcomer(shared, change))?;
+    Ok(copies)
+}
+
+// A copy of it more, where there is one.
+fn push(alloc: Global, copies: &mut Vec<Kept>, one: Option<&Kept>) -> Result<(), NoMemory>
+    ensures { OnOk result (copies.new.items ≡ copies.old.items ++ option_to_list (option_copied one.entry)) }
+{
+    if let Some(one) = one {
+        copies.push(kept::copy(alloc, one)?)?;
+    }
+    Ok(())
+}
+
+fn shared_first(
+    shared: &Option<Arc<KeptMap>>,
+    change: &Option<Change>,
+    aaid: &Aaid,
+    branch: &Option<BranchId>,
+) -> Option<NodeKey>
+    ensures first { result ≡ first_in (changed_all change.now (shared_list shared.now)) aaid.now branch.now }
+    ensures single { AreSingle (shared_list shared.now) }
+{
+    match shared {
+        None => None,
+        Some(all) => all.first_in(aaid, branch, change),
+    }
+}
+
+fn shared_copies(
+    alloc: Global,
+    shared: &Option<Arc<KeptMap>>,
+    change: &Option<Change>,
+) -> Result<Vec<Kept>, NoMemory>
+    ensures copies { IfOk result (λ copies. copies.items ≡ changed_all change.now (shared_list shared.now)) }
+    ensures single { AreSingle (shared_list shared.now) }
+{
+    match shared {
+        None => Ok(Vec::new(alloc)),
+        Some(all) => all.copies(alloc, change),
+    }
+}
+
+// The oldest with one that is put.
+fn first_put<'a>(first: Option<&'a Kept>, kept: &'a Kept) -> Option<&'a Kept>
+    ensures { option_copied result ≡ first_put (option_copied first.entry) kept.now }
+{
+    match first {
+        Some(one) if !is_key(&one.key, &kept.key) => Some(one),
+        _ => Some(kept),
+    }
+}
+
+// The oldest without the one with that key, where the second is known.
+fn first_removed<'a>(
+    first: Option<&'a Kept>,
+    second: Option<&'a Kept>,
+    key: &NodeKey,
+) -> Option<&'a Kept>
+    ensures { option_copied result ≡ first_removed (option_copied first.entry) (option_copied second.entry) key.now }
+{
+    match first {
+        Some(one) if is_key(&one.key, key) => second,
+        other => other,
     }
 }
 
 fn shared_len(shared: &Option<Arc<KeptMap>>) -> usize
     ensures len { result ≡ length (shared_list shared.now) }
     ensures small { result < 2 ^ 63 }
+    ensures single { AreSingle (shared_list shared.now) }
 {
     match shared {
         None => 0,
@@ -312,11 +353,12 @@ fn shared_at(shared: &Option<Arc<KeptMap>>, place: usize) -> Option<&Kept>
     }
 }
 
-fn shared_place(shared: &Option<Arc<KeptMap>>, key: &NodeKey) -> usize
-    ensures { result ≡ place_of_key (shared_list shared.now) key.now }
+fn shared_find<'a>(shared: &'a Option<Arc<KeptMap>>, key: &NodeKey) -> Option<&'a Kept>
+    ensures found { option_copied result ≡ find_kept (shared_list shared.now) key.now }
+    ensures single { AreSingle (shared_list shared.now) }
 {
     match shared {
-        None => 0,
-        Some(all) => all.place_of(key),
+        None => None,
+        Some(all) => all.find(key),
     }
 }

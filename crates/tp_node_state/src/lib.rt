@@ -5,17 +5,18 @@
 //! stands aside until no copy has the rest. Nothing here knows of other nodes, nor of a log's place.
 #![tactic(auto)]
 
+mod ages;
 mod arc_step;
 mod arcs;
+mod change;
 pub mod copies;
 mod directory;
 pub mod kept;
-mod kept_key;
 mod kept_map;
 mod kept_table;
 mod outs;
 mod shared_arcs;
-mod trees;
+mod tree_key;
 
 pub use arc_step::{ArcStep, is_granting};
 pub use kept_table::KeptTable;
