@@ -368,6 +368,8 @@ class Cluster:
         self.quiet = False
         self.transfers, self.by_identifier, self.complete = [], {}, []
         self.asked = {}  # what each store was asked: node and tree to words
+        self.endings = {}  # what the user of each root was told: tree to outcome
+        self.named = set()  # the faults that were planted into its recording, and named
         self.sites = []
         for k in range(sites):
             self.sites.append(Site("s%d" % k, self, os.path.join(folder, "s%d" % k)))
@@ -633,6 +635,8 @@ class Cluster:
         if node.kind == "root" and tree.current is not None:
             tree.current = None
             self.counts["complete" if outcome == "commit" else "rolled back"] += 1
+            if transfer.identifier is not None:
+                self.endings[wire.words_of_identifier(transfer.identifier)] = outcome
             if outcome == "commit":
                 self.complete.append(transfer)
                 if not self.quiet and self.draw.random() < self.kill_rate:
@@ -845,31 +849,57 @@ class Cluster:
             with open(os.path.join(self.record, os.path.basename(self.folder) + ".recording"), "wb") as file:
                 file.write(given)
         united = subprocess.run(self.unite, input=given, capture_output=True)
-        if (united.returncode, united.stdout) != (0, b"deployment\n"):
+        if united.returncode != 0 or not united.stdout.startswith(b"deployment\n"):
             self.fault("unite: status %d, %s %s" % (united.returncode, united.stdout[:200].decode(), united.stderr[:200].decode()))
-        for name, bodies, status in self.planted(wire.frames_in(given)[0]):
+        else:
+            self.judge_closing([line.split() for line in united.stdout.decode().splitlines()[1:]])
+        for name, bodies, status, said in self.planted(wire.frames_in(given)[0]):
             united = subprocess.run(self.unite, input=b"".join(map(wire.frame, bodies)), capture_output=True)
             self.counts["planted"] = self.counts.get("planted", 0) + 1
-            if united.returncode != status:
-                self.fault("unite: %s has status %d, %s" % (name, united.returncode, united.stdout[:200].decode()))
+            self.named.add(name)
+            if united.returncode != status or not (united.stdout + united.stderr).startswith(said):
+                self.fault("unite: %s has status %d, %s %s" % (name, united.returncode, united.stdout[:200].decode(), united.stderr[:200].decode()))
+
+    def judge_closing(self, lines):
+        """The closing lines are the outcomes that the users were told, and of each tree there is one."""
+        ended = {words[1]: words[2:] for words in lines}
+        self.counts["closing lines"] = len(lines)
+        self.counts["outcomes told"] = 0
+        if len(ended) != len(lines):
+            self.fault("unite: a tree is closed twice")
+        for tree, outcome in self.outcomes_told():
+            self.counts["outcomes told"] += 1
+            words = ended.get(tree)
+            if words != ["agreed", outcome] and not (self.heuristic and words and words[0] == "mixed"):
+                self.fault("unite: a user of %s was told %s, and its closing line says %s" % (tree, outcome, words))
+        for tree, words in ended.items():
+            if words == ["open"]:
+                self.fault("unite: %s is open" % tree)
+
+    def outcomes_told(self):
+        """What the users of the roots and the stores were told, by the words of the tree."""
+        yield from self.endings.items()
+        for (_, tree), asked in self.asked.items():
+            for outcome in sorted(asked & {"commit", "rollback"}):
+                yield wire.words_of_identifier(tree), outcome
 
     def planted(self, bodies):
-        """The recording with one fault in it, and the status with which it must be named."""
-        first = {code: next(k for k, body in enumerate(bodies) if body[0] == code) for code in (0x03, 0x52)}
-        changed = bytearray(bodies[first[0x03]])
+        """The recording with one fault in it, the status with which it must be named, and how what is said then begins."""
+        first = next(k for k, body in enumerate(bodies) if body[0] == 0x03)
+        changed = bytearray(bodies[first])
         changed[-2] ^= 1  # in the mark of the first association
-        yield "a record that was changed", bodies[:first[0x03]] + [bytes(changed)] + bodies[first[0x03] + 1:], 1
+        yield "a record that was changed", bodies[:first] + [bytes(changed)] + bodies[first + 1:], 1, b"not-carried %d\n" % (first + 1)
         starts = [k for k, body in enumerate(bodies) if body[0] == 0x52] + [len(bodies)]
         for one, other, end in zip(starts, starts[1:], starts[2:]):
             if bodies[one] == bodies[other]:
-                yield "a log that was put back", bodies[:(one + other) // 2] + bodies[other:], 1
-                yield "two processes on one log", bodies[:one] + bodies[other:end] + bodies[one:other] + bodies[end:], 1
+                yield "a log that was put back", bodies[:(one + other) // 2] + bodies[other:], 1, b"not-carried"
+                yield "two processes on one log", bodies[:one] + bodies[other:end] + bodies[one:other] + bodies[end:], 1, b"not-carried"
                 break
         under = next(k for k, body in enumerate(bodies) if body[0] == 0x01 and body[3] == 1)
         declared = bytearray(bodies[under])
         declared[-1] ^= 1
-        yield "a superior that was changed", bodies[:under] + [bytes(declared)] + bodies[under + 1:], 1
-        yield "a number that is used twice", bodies[:1] + bodies, 3
+        yield "a superior that was changed", bodies[:under] + [bytes(declared)] + bodies[under + 1:], 1, b"not-placed %d\n" % (under + 1)
+        yield "a number that is used twice", bodies[:1] + bodies, 3, b"tpunite: bad input at 2: name\n"
 
     def judge_stores(self):
         total = wanted = 0
@@ -937,7 +967,7 @@ def one_run(options, sites, transfers, seed, wrong):
 
 def campaign(options, sizes, transfers, wrong):
     """Runs of so many sites each; their sums, their faults, and how many of them had one."""
-    totals, faults, caught = {}, [], 0
+    totals, faults, caught, named = {}, [], 0, set()
     for k, sites in enumerate(sizes):
         cluster = one_run(options, sites, -(-transfers // len(sizes)), options.seed + k, wrong)
         for word, count in cluster.counts.items():
@@ -947,6 +977,9 @@ def campaign(options, sizes, transfers, wrong):
             print("  %s" % fault, flush=True)
         faults += cluster.faults
         caught += bool(cluster.faults)
+        named |= cluster.named
+    if named:
+        totals["kinds of planted"] = len(named)
     return totals, faults, caught
 
 

@@ -415,6 +415,9 @@ class Users:
             if outcome == "commit" and not report and not staying <= committed:
                 self.fault("%s is complete without %s" % (wire.words_of_identifier(tree), staying - committed))
 
-    def planted(self, bodies: typing.List[bytes]) -> typing.List[typing.Tuple[str, typing.List[bytes], int]]:
+    def outcomes_told(self) -> typing.List[typing.Tuple[str, str]]:
+        return [(wire.words_of_identifier(tree), outcome) for tree, (outcome, _) in self.ends.items()]
+
+    def planted(self, bodies: typing.List[bytes]) -> typing.List[typing.Tuple[str, typing.List[bytes], int, bytes]]:
         """Not every record of these runs is taken, so one that is changed need not be found."""
         return []

@@ -1,4 +1,4 @@
-"""ripsaw site | draw | replay: see `ripsaw --help`."""
+"""ripsaw site | draw | replay | recording: see `ripsaw --help`."""
 from __future__ import annotations
 
 import argparse
@@ -35,6 +35,12 @@ def run_replay(options: argparse.Namespace) -> int:
     return 1 if differ else 0
 
 
+def run_recording(options: argparse.Namespace) -> int:
+    with tempfile.TemporaryDirectory() as room:
+        sys.stdout.buffer.write(replay.recording(options.records, options.program, Path(room), options.root))
+    return 0
+
+
 def main() -> int:
     parser = argparse.ArgumentParser(prog="ripsaw", description="Sites on machines: docs/DEPLOYING.md.")
     commands = parser.add_subparsers(dest="command", required=True)
@@ -48,11 +54,13 @@ def main() -> int:
     command.add_argument("--mermaid", action="store_true", help="text for Mermaid in place of SVG")
     command.add_argument("--transcript", action="store_true", help="the transcript itself")
     command.set_defaults(run=run_draw)
-    command = commands.add_parser("replay", help="play the records of all sites again, and compare")
-    command.add_argument("records", nargs="+", type=Path, help="a site's folder, or its record, of each site")
-    command.add_argument("--root", type=int, help="the nodes of this root alone")
-    command.add_argument("--program", default="tpnode", help="the program that replays (tpnode)")
-    command.set_defaults(run=run_replay)
+    for name, run, does in (("replay", run_replay, "play the records of all sites again, and compare"),
+                            ("recording", run_recording, "write what tpunite reads of the records of all sites")):
+        command = commands.add_parser(name, help=does)
+        command.add_argument("records", nargs="+", type=Path, help="a site's folder, or its record, of each site")
+        command.add_argument("--root", type=int, help="the nodes of this root alone")
+        command.add_argument("--program", default="tpnode", help="the program that replays (tpnode)")
+        command.set_defaults(run=run)
     options = parser.parse_args()
     try:
         status: int = options.run(options)

@@ -7,11 +7,15 @@ many are played as the log must have had: a start writes down how many records o
 Compared are the outputs of each event, in the words of a transcript, and at the end the log of each site to the byte, where it has not been
 compacted. The records must begin with fresh logs. A world has at most 16 sites, 256 nodes, 65,535 frames and a schedule of a megabyte; of a
 larger one `--root N` takes the nodes of one root, whose events no others have to do with.
+
+`ripsaw recording` writes what `tpunite` reads (docs/FORMATS.md, 10): the places of the nodes, and what each process was given and played.
 """
 from __future__ import annotations
 
+import struct
 import subprocess
 from collections import Counter, defaultdict
+from collections.abc import Iterator
 from dataclasses import dataclass, field
 from pathlib import Path
 
@@ -139,11 +143,44 @@ class Replay:
             else:
                 return lines, logs
 
+    def depth(self, node: int) -> int:
+        above = self.sites.superiors.get(node)
+        return 0 if above is None else 1 + self.depth(above)
+
+    def recording(self) -> Iterator[bytes]:
+        """The places of the nodes, a superior before its subordinates, and then the processes, site by site."""
+        for it in sorted(self.nodes, key=lambda it: (self.depth(it), it)):
+            above = self.sites.superiors.get(it)
+            head = struct.pack(">BH", 0x50, it) if above is None else struct.pack(">BHH", 0x51, it, above)
+            yield head + wire.text_of_site(self.sites.places[it])
+        boots: Counter[str] = Counter()
+        streams: dict[str, list[bytes]] = defaultdict(list)
+        for past in self.past:
+            if isinstance(past, Start):
+                streams[past.site] += [b"\x52" + wire.text_of_site(past.site)] * (past.run.boot - boots[past.site])
+                boots[past.site] = past.run.boot
+            elif not past.step.unread or id(past) in self.played:
+                streams[past.site].append(past.step.event.body())
+        for stream in streams.values():
+            yield from stream
+
+
+def of_records(folders: list[Path], program: str, room: Path, root: int | None) -> Replay:
+    """Of all nodes, or of those of one root."""
+    sites = Sites.read(folders)
+    return Replay(sites, set(sites.places) if root is None else sites.group(root), program, room)
+
+
+def recording(folders: list[Path], program: str, room: Path, root: int | None = None) -> bytes:
+    """What `tpunite` reads."""
+    past = of_records(folders, program, room, root)
+    past.settle()
+    return b"".join(map(wire.frame, past.recording()))
+
 
 def replay(folders: list[Path], program: str, room: Path, root: int | None = None) -> tuple[int, int, list[str]]:
     """How many events and logs are alike, and what differs."""
-    sites = Sites.read(folders)
-    lines, logs = Replay(sites, set(sites.places) if root is None else sites.group(root), program, room).settle()
+    lines, logs = of_records(folders, program, room, root).settle()
     same, differ = 0, []
     for number, line in enumerate(lines, 1):
         if line.past is not None and not line.past.step.unread:

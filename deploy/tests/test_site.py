@@ -13,7 +13,7 @@ import pytest
 
 from ripsaw import client, draw, history, plain, replay
 from ripsaw.world import World
-from tests.worlds import DRAW, PROGRAM, SQLITE, needs_program, play
+from tests.worlds import DRAW, PROGRAM, SQLITE, UNITE, needs_program, play
 
 pytestmark = needs_program
 SLOW = '''
@@ -218,6 +218,10 @@ def test_the_record_is_a_run_of_the_program(tmp_path: Path) -> None:
     if DRAW:
         drawn = subprocess.run([DRAW], input=transcript.encode(), stdout=subprocess.PIPE)
         assert drawn.returncode == 0 and drawn.stdout.endswith(b"</svg>\n")
+    given = replay.recording(folders, PROGRAM, tmp_path)
+    if UNITE:
+        united = subprocess.run([UNITE], input=given, stdout=subprocess.PIPE)
+        assert united.returncode == 0 and f"tree {trees[0]} agreed commit" in united.stdout.decode().splitlines()
 
 
 def test_no_two_daemons_on_one_folder(tmp_path: Path) -> None:

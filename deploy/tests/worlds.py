@@ -14,6 +14,7 @@ from ripsaw.world import World
 
 PROGRAM = os.environ.get("TPNODE") or shutil.which("tpnode") or ""
 DRAW = os.environ.get("TPDRAW") or shutil.which("tpdraw") or ""
+UNITE = os.environ.get("TPUNITE") or shutil.which("tpunite") or ""
 needs_program = pytest.mark.skipif(not PROGRAM, reason="TPNODE does not name the program")
 
 CALLS = {"add": ["update account set balance = balance + cast(?2 as integer) where name = ?1"], "see": ["select balance from account where name = ?1"]}

@@ -2,8 +2,10 @@ pub mod Named
 pub mod Sent
 pub mod Asking
 pub mod Played
+pub mod Trees
 pub mod Laid
 pub mod Heard
 pub mod Answering
 pub mod Never
 pub mod Listening
+pub mod Closed

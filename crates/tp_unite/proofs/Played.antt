@@ -105,11 +105,11 @@ next_played qs r p lane site t at is starts name taken steps idle number = recor
 abbrev address : List ℕ → ℕ → Addr
 address s n = record { site = s; node = n }
 
-site_is : (s : List ℕ) (life : Life) → (opening_after s life).site ≡ s
+pub site_is : (s : List ℕ) (life : Life) → (opening_after s life).site ≡ s
 site_is s [] = refl
 site_is s (gs ∷ life) = refl
 
-asks_on : (s : List ℕ) (life : Life) (g : Given) → asked (opening_after s life) g ≡ asked (opening_at s) g
+pub asks_on : (s : List ℕ) (life : Life) (g : Given) → asked (opening_after s life) g ≡ asked (opening_at s) g
 asks_on s life g = sym (asked_by_name (opening_after s life) g) ∙ ap (λ (n : List ℕ). asked (opening_at n) g) (site_is s life)
 
 went : (qs : List Place) (r : Record) (p : Playing) (is : IsPlaying qs r p) (g : Given) (lane : Lane) (site : Site (Kept MemDisk)) (t : Step) (at : ℕ) → lane.name ≡ p.lane.name → lane.taken ≡ p.lane.taken → lane.steps.items ≡ p.lane.steps.items ++ t ∷ [] → t.at ≡ at

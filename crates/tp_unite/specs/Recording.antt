@@ -1,20 +1,26 @@
 -- How far a recording was heard, and what the code keeps of it.
 use Rattle.std.specs.Prelude.{ℕ, ◌≡◌, ◌⊎◌, Option, Some, None, Result, Ok, Err, List, [], ◌∷◌}
+use Rattle.tp_names.specs.declared.identifiers.Addr.{Addr}
 use Rattle.tp_model.specs.declared.verdict.What.{What}
 use Rattle.tp_model.specs.Transcript.{Ending, Done, Bad_input, At_limit}
 use Rattle.tp_streams.specs.declared.stop.Stop.{Stop}
 use Rattle.tp_deployments.specs.Deployments.{Place, AreArranged}
 use Rattle.tp_weaving.specs.declared.frame.Frame.{Frame}
 use Rattle.tp_weaving.specs.declared.lane.Lane.{Lane}
+use Rattle.tp_weaving.specs.Places.{find_place}
 use Rattle.tp_weaving.specs.Frames.{Record, Recording as Told, frame_in}
 use Rattle.tp_weaving.specs.Parts.{AreApart}
 use Rattle.tp_weaving.specs.Weaving.{AreLanes}
+use Rattle.tp_closing.specs.Told.{TellTrees}
 use Rattle.tp_unite.specs.declared.playing.Playing.{Playing}
 use Rattle.tp_unite.specs.declared.playing.PlayFault.{PlayFault}
 use Rattle.tp_unite.specs.declared.recording.Recording.{Recording}
 use Rattle.tp_unite.specs.declared.recording.HearFault.{HearFault}
 use Rattle.tp_unite.specs.Placing.{MisplacesOf}
 use Rattle.tp_unite.specs.Playing.{IsPlaying}
+
+abbrev pub superior_at : List Place → Addr → Option Addr
+superior_at qs a = elim (find_place qs a) [ None ↦ None | Some q ↦ q.superior ]
 
 -- the site of the newest record is played; those of the others were played whole
 abbrev pub ArePlayed : List Place → List Record → List Lane → Option Playing → Type 0
@@ -28,6 +34,7 @@ pub record IsHeard (t : Told) (c : Recording) : Type 0 where
   pub arranged : AreArranged t.places
   pub apart : AreApart t.records
   pub played : ArePlayed t.places t.records c.lanes.items c.playing
+  pub trees : TellTrees t.places t.records c.trees
 
 -- what was told is heard, where it was told
 abbrev pub Comes : Option Told → Recording → Type 0
@@ -40,6 +47,7 @@ pub record AreWhole (t : Told) (c : Recording) : Type 0 where
   pub arranged : AreArranged t.places
   pub apart : AreApart t.records
   pub lanes : AreLanes t.places t.records c.lanes.items
+  pub trees : TellTrees t.places t.records c.trees
 
 -- the site of the newest record was taken out
 pub record IsLeft (t : Told) (r : Record) (rs : List Record) (p : Playing) (c : Recording) : Type 0 where
@@ -48,6 +56,7 @@ pub record IsLeft (t : Told) (r : Record) (rs : List Record) (p : Playing) (c : 
   pub apart : AreApart (r ∷ rs)
   pub playing : IsPlaying t.places r p
   pub lanes : AreLanes t.places rs c.lanes.items
+  pub trees : TellTrees t.places (r ∷ rs) c.trees
 
 -- ---- a frame
 

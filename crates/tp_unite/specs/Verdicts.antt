@@ -1,14 +1,19 @@
 -- What it means that the bytes of a recording tell of a deployment, or of none, or are not read to their end.
 use Rattle.std.specs.Prelude.{ℕ, suc, ◌≡◌, ◌⊎◌, Option, Some, List, ◌∷◌, ◌++◌}
 use Rattle.tp_framing.specs.Frames.{Nothing, stream}
+use Rattle.tp_model.specs.declared.out_line.OutLine.{OutLine}
 use Rattle.tp_model.specs.declared.verdict.What.{What}
+use Rattle.tp_model.specs.Happenings.{Happening, run}
 use Rattle.tp_model.specs.Transcript.{Done, Bad_input, At_limit}
 use Rattle.tp_streams.specs.declared.stop.Stop.{Stop}
 use Rattle.tp_streams.specs.Stops.{IsFaultOf}
-use Rattle.tp_deployments.specs.Deployments.{AreArranged}
+use Rattle.tp_deployments.specs.Deployments.{Deed, AreArranged}
+use Rattle.tp_deployments.specs.RunOf.{IsRunOf}
+use Rattle.tp_laws.specs.Whole.{AllPromised}
 use Rattle.tp_weaving.specs.Frames.{Recording, nothing_told, told_from}
-use Rattle.tp_weaving.specs.Parts.{AreApart}
+use Rattle.tp_weaving.specs.Parts.{AreApart, IsWovenOf}
 use Rattle.tp_weaving.specs.Weaving.{Weaves, WeavesNone, Waits}
+use Rattle.tp_closing.specs.Closing.{closing_told, AreClosing}
 use Rattle.tp_unite.specs.declared.recording.Recording.{Recording as Kept}
 use Rattle.tp_unite.specs.declared.verdict.Heard.{Heard}
 use Rattle.tp_unite.specs.declared.verdict.Verdict.{Verdict}
@@ -69,6 +74,27 @@ Judges bytes (Verdict.NotCarried at) = TellsUncarried bytes at
 abbrev pub Hears : List ℕ → Heard → Type 0
 Hears bytes (Heard.Whole c) = IsWhole bytes c
 Hears bytes (Heard.NotPlaced at) = TellsMisplaced bytes at
+
+-- ---- the closing lines
+
+-- **the lines are told by the deeds of the recording alone, and are but for their order those that close the transcript of every run that
+-- these are, in whatever order they happened**; such a run there is, and of it holds all that is promised of runs
+pub record ClosesDeployment (bytes : List ℕ) (lines : List OutLine) : Type 0 where
+  pub told : Recording
+  pub tells : Tells bytes told
+  pub lines_are : lines ≡ closing_told told
+  pub every : (ds : List Deed) (es : List Happening) → IsWovenOf told.records ds → IsRunOf told.places ds (run es) → AreClosing lines (run es)
+  pub deeds : List Deed
+  pub woven : IsWovenOf told.records deeds
+  pub happenings : List Happening
+  pub is_run : IsRunOf told.places deeds (run happenings)
+  pub keeps : AllPromised (run happenings)
+
+-- of no deployment there are none
+abbrev pub Closes : List ℕ → Verdict → List OutLine → List OutLine → Type 0
+Closes bytes Verdict.Deployment old new = ClosesDeployment bytes new
+Closes bytes (Verdict.NotPlaced at) old new = new ≡ old
+Closes bytes (Verdict.NotCarried at) old new = new ≡ old
 
 -- ---- no verdict
 

@@ -1,20 +1,22 @@
 //! A recording, as its frames come.
-ghost use Rattle.std.specs.Prelude.{◌≡◌, ◌∷◌, suc, List, Some, option_map, IfOk, OnOk};
+ghost use Rattle.std.specs.Prelude.{◌≡◌, ◌∷◌, [], suc, List, Some, option_map, IfOk, OnOk};
 ghost use Rattle.tp_model.specs.Transcript.{Done as IsTaken};
 ghost use Rattle.tp_deployments.specs.Deployments.{Starts, Place as PlaceValue};
 ghost use Rattle.tp_weaving.specs.Frames.{Record, Recording as Told, nothing_told, told_place, with_start, with_event, with_records, told_body, first_deed, with_deed, has_record};
 ghost use Rattle.tp_weaving.specs.Weaving.{AreLanes};
+ghost use Rattle.tp_closing.specs.Told.{TellTrees};
 ghost use Rattle.tp_unite.specs.Placing.{MisplacesOf};
 ghost use Rattle.tp_unite.specs.Endings.{place_ending, opening_ending, start_ending, event_ending, body_ending};
-ghost use Rattle.tp_unite.specs.Recording.{IsHeard, Answers, AreWhole, IsLeft, Misplaces, fault_at};
+ghost use Rattle.tp_unite.specs.Recording.{superior_at, IsHeard, Answers, AreWhole, IsLeft, Misplaces, fault_at};
 ghost use Rattle.tp_unite.specs.declared.recording.HearFault.{HearFault as TheFault};
 ghost use Rattle.tp_streams.specs.declared.stop.Stop.{Stop as TheStop};
 
 use crate::playing::{PlayFault, Playing};
 use std::alloc::Global;
+use tp_closing::Trees;
 use tp_model::{What, Why};
 use tp_names::same::is_name;
-use tp_names::{NoMemory, SiteName};
+use tp_names::{Addr, NoMemory, SiteName};
 use tp_records::Event;
 use tp_streams::Stop;
 use tp_weaving::{Frame, Lane, Places, read_frame};
@@ -69,6 +71,7 @@ pub(crate) struct Recording {
     places: Places,
     lanes: Vec<Lane>,
     playing: Option<Playing>,
+    trees: Trees,
 }
 
 // One of these is of that site.
@@ -81,6 +84,16 @@ fn is_among(lanes: &[Lane], name: &SiteName) -> bool
     }
 }
 
+// The superior of the node at that address.
+fn superior_at(places: &Places, addr: &Addr) -> Option<Addr>
+    ensures { result ≡ superior_at places.now addr.now }
+{
+    match places.find(addr) {
+        Some(place) => place.superior,
+        None => None,
+    }
+}
+
 impl Recording {
     /// Nothing came.
     pub(crate) fn new(alloc: Global) -> Recording
@@ -90,6 +103,7 @@ impl Recording {
             places: Places::new(alloc),
             lanes: Vec::new(alloc),
             playing: None,
+            trees: Trees::new(alloc),
         }
     }
 
@@ -106,6 +120,19 @@ impl Recording {
             Frame::Starts(site) => self.start(alloc, at, site),
             Frame::Takes(event) => self.give(alloc, at, event),
         }
+    }
+
+    // The node that has its place there is seen from now on.
+    fn see(&mut self, alloc: Global, addr: Addr) -> Result<(), NoMemory>
+        ensures trees { OnOk result ((qs : List PlaceValue) (q : PlaceValue) → self.old.places ≡ q ∷ qs → q.addr ≡ addr
+            → TellTrees qs [] self.old.trees → TellTrees (q ∷ qs) [] self.new.trees) }
+        ensures places { self.new.places ≡ self.old.places }
+        ensures lanes { self.new.lanes ≡ self.old.lanes }
+        ensures playing { self.new.playing ≡ self.old.playing }
+    {
+        let superior = superior_at(&self.places, &addr);
+        self.trees.place(alloc, addr, superior)?;
+        Ok(())
     }
 
     // A node has its place, before the first process starts.
@@ -131,6 +158,7 @@ impl Recording {
         if !self.places.add(node, under, site)? {
             return Err(HearFault::Stop(Stop::BadInput { at, why: Why::Name }));
         }
+        self.see(alloc, Addr { site, node })?;
         Ok(())
     }
 
@@ -162,7 +190,7 @@ impl Recording {
         ensures { (t : Told) (r : Record) (rs : List Record) → IsLeft t r rs playing self.old
             → Answers at IsTaken (Some (with_records t (with_deed r at (Starts r.site) ∷ rs))) ⊥ result self.new }
     {
-        match playing.next(alloc, at) {
+        match playing.next(alloc, &mut self.trees, at) {
             Ok(next) => {
                 self.playing = Some(next);
                 Ok(())
@@ -195,24 +223,25 @@ impl Recording {
         let Some(playing) = &mut self.playing else {
             return Err(HearFault::Stop(Stop::BadInput { at, why: Why::Body }));
         };
-        match playing.take(alloc, &self.places, at, event) {
+        match playing.take(alloc, &self.places, &mut self.trees, at, event) {
             Ok(()) => Ok(()),
             Err(fault) => Err(fault_at(fault, at)),
         }
     }
 
-    /// The steps of all sites.
-    pub(crate) fn close(self) -> Result<Vec<Lane>, NoMemory>
-        ensures { IfOk result (λ lanes. (t : Told) → IsHeard t self → AreLanes t.places t.records lanes.items) }
+    /// The steps of all sites, and what their nodes did in trees.
+    pub(crate) fn close(self) -> Result<(Vec<Lane>, Trees), NoMemory>
+        ensures { IfOk result (λ x. (t : Told) → IsHeard t self → AreLanes t.places t.records x.0.items × TellTrees t.places t.records x.1) }
     {
         let Recording {
             mut lanes,
             playing,
+            trees,
             ..
         } = self;
         if let Some(playing) = playing {
             put(&mut lanes, playing.lane)?;
         }
-        Ok(lanes)
+        Ok((lanes, trees))
     }
 }

@@ -1,10 +1,11 @@
 //! The verdict over a recording.
 ghost use Rattle.std.specs.Prelude.{◌≡◌, ◌≤◌, ℕ, List, Some, IfOk, IfErr};
-ghost use Rattle.tp_unite.specs.Verdicts.{Hears, Judges, Stops};
+ghost use Rattle.tp_unite.specs.Verdicts.{Hears, Judges, Stops, Closes};
 ghost use Rattle.tp_unite.specs.declared.verdict.Heard.{Heard as TheHeard};
 
 use crate::recording::{HearFault, Recording};
 use std::alloc::Global;
+use tp_model::OutLines;
 use tp_names::NoMemory;
 use tp_outside::Source;
 use tp_streams::{Intake, Stop};
@@ -53,20 +54,30 @@ fn hear<S: Source>(alloc: Global, source: &mut S) -> Result<Heard, Stop>
     Err(Stop::NoMemory)
 }
 
-// The verdict over a recording that was read whole.
-fn judge(alloc: Global, recording: Recording) -> Result<Verdict, NoMemory>
-    ensures { IfOk result (λ verdict. (bytes : List ℕ) → Hears bytes (TheHeard.Whole recording) → Judges bytes verdict) }
+// The verdict over a recording that was read whole, and the closing lines of a deployment.
+fn judge(alloc: Global, recording: Recording, lines: &mut OutLines) -> Result<Verdict, NoMemory>
+    ensures closes { IfOk result (λ verdict. (bytes : List ℕ) → Hears bytes (TheHeard.Whole recording) → Closes bytes verdict lines.old lines.new) }
+    ensures judges { IfOk result (λ verdict. (bytes : List ℕ) → Hears bytes (TheHeard.Whole recording) → Judges bytes verdict) }
 {
-    let mut lanes = recording.close()?;
+    let (mut lanes, trees) = recording.close()?;
     match weave(alloc, lanes.as_mut_slice())? {
-        Woven::Whole => Ok(Verdict::Deployment),
+        Woven::Whole => {
+            *lines = trees.closing(alloc)?;
+            Ok(Verdict::Deployment)
+        }
         Woven::Waits { at } => Ok(Verdict::NotCarried { at }),
     }
 }
 
-/// Reads the frames of a recording, and tells whether its processes are a deployment. Where the source stands then is not said:
-/// it is thrown away.
-pub fn unite<S: Source>(alloc: Global, source: &mut S) -> Result<Verdict, Stop>
+/// Reads the frames of a recording, and tells whether its processes are a deployment. Of a deployment the lines are those that close
+/// the transcripts of the runs that it is: one for each tree, in the order of the places of the nodes that began them, and of each node
+/// in the order in which it began them. After another verdict the lines stay as they were. Where the source stands then is not said:
+/// it is thrown away, and so are the lines where there is no verdict.
+pub fn unite<S: Source>(
+    alloc: Global,
+    source: &mut S,
+    lines: &mut OutLines,
+) -> Result<Verdict, Stop>
     // Promise 22.20 [tp_unite/specs/Verdicts.antt]: Where the verdict over a recording is that it
     //   is a deployment, the bytes are whole frames, the places are arranged as is asked above, no
     //   site has two records, and there is an order of all deeds, in which those of each site stand
@@ -81,6 +92,12 @@ pub fn unite<S: Source>(alloc: Global, source: &mut S) -> Result<Verdict, Stop>
     //   of some of the deeds reaches that is a deployment, and one reaches all deeds of that site
     //   before it
     ensures judges { IfOk result (λ verdict. (bytes : List ℕ) → S.left source.old ≡ Some bytes → Judges bytes verdict) }
+    // Promise 22.29 [tp_unite/specs/Verdicts.antt, tp_closing/specs/Closing.antt]: **The lines of a
+    //   deployment are, but for their order, the closing lines of every run that the deeds of the
+    //   recording are, in whatever order these happened**; there is such a run, and 22.2 holds of it.
+    //   The lines follow from what each node went through alone, and come in
+    //   the order of the nodes' places, and of each node in the order in which it began the trees
+    ensures closes { IfOk result (λ verdict. (bytes : List ℕ) → S.left source.old ≡ Some bytes → Closes bytes verdict lines.old lines.new) }
     // Promise 22.26 [tp_unite/specs/Verdicts.antt, tp_unite/specs/Endings.antt]: Without a verdict,
     //   the answer names the first frame that is none of a recording, with the reason; or the first
     //   that passes the limit of sites or of nodes; or the limit of a log, in a frame up to which each
@@ -90,7 +107,7 @@ pub fn unite<S: Source>(alloc: Global, source: &mut S) -> Result<Verdict, Stop>
     ensures kept { S.fault_count source.old ≤ S.fault_count source.new }
 {
     match hear(alloc, source)? {
-        Heard::Whole(recording) => Ok(judge(alloc, recording)?),
+        Heard::Whole(recording) => Ok(judge(alloc, recording, lines)?),
         Heard::NotPlaced { at } => Ok(Verdict::NotPlaced { at }),
     }
 }

@@ -1,17 +1,20 @@
 //! The program's one call.
 ghost use Rattle.std.specs.Prelude.{ℕ, ◌≡◌, ◌≢◌, ◌↔◌, ◌++◌, [], List, Option, IfOk, OnOk};
+ghost use Rattle.tp_model.specs.OutText.{out_texts};
 ghost use Rattle.tp_model.specs.Words.{words};
 ghost use Rattle.tp_text_builder.specs.Written.{Adds};
 ghost use Rattle.tp_unite.specs.Verdicts.{Stops};
-ghost use Rattle.tpunite.specs.Runs.{verdict_words, verdict_line, status_after, Runs, IsStopped, IsUnjudged, Writes};
+ghost use Rattle.tpunite.specs.Runs.{verdict_words, verdict_line, report_text, status_after, Runs, IsStopped, IsUnjudged, Writes};
 ghost use Rattle.tpunite.specs.declared.status.Status.{Status as TheStatus};
 
 use crate::Status;
 use std::alloc::Global;
+use tp_model::{OutLine, OutLines};
 use tp_names::{NoMemory, Octets};
 use tp_outside::{Sink, Source};
 use tp_streams::{Stop, write_all};
 use tp_text_builder::Text;
+use tp_transcript::write_out;
 use tp_unite::{Verdict, unite};
 
 // How a program ends that stops so. What comes of a log on a disk does not come here.
@@ -62,24 +65,36 @@ fn put_verdict(verdict: Verdict, text: &mut Text)
     }
 }
 
-// The line of a verdict.
-fn line_of(alloc: Global, verdict: Verdict) -> Result<Octets, NoMemory>
-    ensures { IfOk result (λ line. line ≡ verdict_line verdict) }
+// Puts the lines at the end of `out`, each with its end.
+fn write_lines(alloc: Global, lines: &[OutLine], out: &mut Octets) -> Result<(), NoMemory>
+    ensures { OnOk result (out.new ≡ out.old ++ out_texts lines.now) }
 {
-    let mut line = Octets::new(alloc);
-    write_verdict(alloc, verdict, &mut line)?;
-    Ok(line)
+    for line in lines {
+        write_out(alloc, line, out)?;
+        out.push(alloc, b'\n')?;
+    }
+    Ok(())
 }
 
-// Writes the line of a verdict.
-fn report<K: Sink>(alloc: Global, verdict: Verdict, sink: &mut K) -> Status
-    ensures { Writes verdict result (K.written sink.old) (K.written sink.new) }
+// The line of a verdict, and after it the closing lines.
+fn text_of(alloc: Global, verdict: Verdict, lines: &[OutLine]) -> Result<Octets, NoMemory>
+    ensures { IfOk result (λ text. text ≡ report_text verdict lines.now) }
 {
-    let line = match line_of(alloc, verdict) {
-        Ok(line) => line,
+    let mut text = Octets::new(alloc);
+    write_verdict(alloc, verdict, &mut text)?;
+    write_lines(alloc, lines, &mut text)?;
+    Ok(text)
+}
+
+// Writes the line of a verdict, and after it the closing lines.
+fn report<K: Sink>(alloc: Global, verdict: Verdict, lines: &[OutLine], sink: &mut K) -> Status
+    ensures { Writes verdict lines.now result (K.written sink.old) (K.written sink.new) }
+{
+    let text = match text_of(alloc, verdict, lines) {
+        Ok(text) => text,
         Err(NoMemory) => return Status::NoMemory,
     };
-    match write_all(sink, line.as_slice()) {
+    match write_all(sink, text.as_slice()) {
         Ok(()) => status_after(verdict),
         Err(_) => Status::WriteFault {
             faults: sink.faults(),
@@ -93,17 +108,19 @@ fn judge<S: Source, K: Sink>(alloc: Global, source: &mut S, sink: &mut K) -> Sta
     ensures runs { Runs (S.left source.old) result (K.written sink.old) (K.written sink.new) }
     ensures unjudged { IsUnjudged (S.left source.old) (S.fault_count source.old) (S.fault_count source.new) result }
 {
-    match unite(alloc, source) {
-        Ok(verdict) => report(alloc, verdict, sink),
+    let mut lines = OutLines::new(alloc);
+    match unite(alloc, source, &mut lines) {
+        Ok(verdict) => report(alloc, verdict, lines.as_slice(), sink),
         Err(stop) => status_of(stop),
     }
 }
 
-// Promise 22.22 [clauses usage runs unread, tpunite/specs/Runs.antt]: `tpunite` writes just the
-//   line of that verdict, or a prefix of it where its sink fails, and otherwise nothing; after any
-//   word nothing is read
-/// Reads a recording to the end of the source, and writes the verdict over it to the sink, as one line. Nothing is written before the
-/// whole input was read; where the sink fails, a prefix of the line is written. Any word is usage, and nothing is read.
+// Promise 22.22 [clauses usage runs unread, tpunite/specs/Runs.antt]: `tpunite` writes just the line of
+//   that verdict and, after `deployment`, its closing lines (22.29), or a prefix of these where its
+//   sink fails, and otherwise nothing; after any word nothing is read
+/// Reads a recording to the end of the source, and writes the verdict over it to the sink, as one line, and after `deployment` the
+/// closing lines of the runs that it is. Nothing is written before the whole input was read; where the sink fails, a prefix of these
+/// lines is written. Any word is usage, and nothing is read.
 pub fn run<S: Source, K: Sink>(
     alloc: Global,
     words: &[&str],
