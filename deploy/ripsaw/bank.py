@@ -29,6 +29,7 @@ from .world import Place, World
 
 BANKS = ["north", "south", "west"]
 ACCOUNTS, BALANCE = 40, 1000
+ENOUGH, MOST_LONGER = 8, 300  # records that a wrong site loses, and seconds that it may take longer for them
 MOST_TRIED = 12  # transfers of which a picture is looked for
 CALLS = {
     "debit": ["update account set balance = balance - cast(?2 as integer) where name = ?1 and balance >= cast(?2 as integer)",
@@ -175,6 +176,9 @@ class Bank:
             restarts.append(asyncio.create_task(self.kill_one(name)))
         for it in restarts:
             await it
+        # (fewer may be made good by chance, as votes for what rolls back anyway)
+        while self.options.wrong and self.taken_back < ENOUGH and time.monotonic() < self.begun + span + MOST_LONGER:
+            await self.kill_one(self.banks[0])
 
     async def kill_one(self, name: str) -> None:
         """A database, a process tpnode whose daemon starts it anew, or a daemon with its tpnode."""
@@ -202,7 +206,7 @@ class Bank:
     async def moment(self, place: Place) -> None:
         """Waits, ten seconds at most, until the last record is a vote or a root's Commit: the loss of another is made good by a retry."""
         end = time.monotonic() + 10
-        while time.monotonic() < end and not self.ending:
+        while time.monotonic() < end:
             last = last_record(place)
             if last is not None and (last.kind is log.Kind.READY or last.kind is log.Kind.COMMIT and last.branch is None):
                 return
@@ -222,10 +226,10 @@ class Bank:
         tellers = [asyncio.create_task(self.teller(k)) for k in range(self.options.clients)]
         killing = asyncio.create_task(self.killer())
         end = self.begun + self.options.seconds
-        while (now := time.monotonic()) < end:
+        while (now := time.monotonic()) < end or self.options.wrong and not killing.done():
             done = sum(it.told == "committed" for it in self.transfers)
             self.say(f"{now - self.begun:5.1f} s   {done} transfers   {self.kills} kills")
-            await asyncio.sleep(min(0.2, end - now))
+            await asyncio.sleep(min(0.2, max(0.01, end - now)))
         self.seconds = time.monotonic() - self.begun
         self.ending = True
         await killing
