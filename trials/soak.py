@@ -36,7 +36,7 @@ from ripsaw import bank, world  # noqa: E402
 
 BANKS = ["ash", "beech", "cedar", "elm", "fir", "larch", "oak", "pine", "yew"]
 RECYCLE, COMPACT = 1500, 40_000  # events of a tpnode, bytes of a log; where no time is lost between transfers
-BUSY_RECYCLE, BUSY_COMPACT = 30_000, 1_000_000
+BUSY_RECYCLE, BUSY_COMPACT = 10_000, 200_000
 SAMPLES = 120  # of a run
 JUDGED = 20 * 60  # seconds of a run from which on its memory is judged
 DAY = 86_400
@@ -158,12 +158,13 @@ class Soak(bank.Bank):
         more = {"patience": 5.0, "retry_least": 0.3, "retry_most": 3.0, "recycle_events": RECYCLE, "recycle_wait": 5.0, "compact_bytes": COMPACT}
         self.world.make(resources, bank.CALLS, certificates=True, more=more)
         self.relays: dict[int, Relay] = {}
+        ports = iter(world.free_ports(len(self.banks) * (len(self.banks) - 1)))
         for site in self.world.places.values():
             settings = site.folder / "site.toml"
             text = settings.read_text()
             for peer in self.world.places.values():
                 if peer is not site:
-                    [port] = world.free_ports(1)
+                    port = next(ports)
                     self.relays[port] = Relay(peer.port)
                     text = text.replace('address = "127.0.0.1:%d"' % peer.port, 'address = "127.0.0.1:%d"' % port)
             settings.write_text(text)
