@@ -32,8 +32,8 @@ CHANGING = ("format", "node", "tx", "drive", "show", "check", "compact", "migrat
 KINDS = ["open", "statx", "pread", "pwrite", "ftruncate", "fsync", "read", "write", "malloc"]
 
 
-# Four calls force a batch of records.
-SETTLE = ["pwrite", "fsync", "pwrite", "fsync"]
+# Four calls force a batch of records, and two cut off what was written ahead of the log.
+SETTLE, CUT = ["pwrite", "fsync", "pwrite", "fsync"], ["ftruncate", "fsync"]
 
 
 def is_front(found, whole, workers):
@@ -129,6 +129,9 @@ class Failing(stops.Stops):
         # A site or workers that find no memory have noted records, and these are forced at the end.
         is_batch = kind == "malloc" and case.words[0] in ("node", "tx", "drive")
         workers = int(case.words[case.words.index("--workers") + 1]) if "--workers" in case.words else 1
+        # What a batch wrote ahead of the log is cut off at the end, whatever brought that.
+        if kind in ("read", "write", "malloc") and case.words[0] in ("node", "tx", "drive") and after[-2:] == CUT:
+            after = after[:-2]
         if is_batch and after == SETTLE:
             after = []
         if after:

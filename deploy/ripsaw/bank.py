@@ -29,6 +29,7 @@ from .world import Place, World
 
 BANKS = ["north", "south", "west"]
 ACCOUNTS, BALANCE = 40, 1000
+ENOUGH, MOST_LONGER = 8, 300  # records that a wrong site loses, and seconds that it may take longer for them
 MOST_TRIED = 12  # transfers of which a picture is looked for
 CALLS = {
     "debit": ["update account set balance = balance - cast(?2 as integer) where name = ?1 and balance >= cast(?2 as integer)",
@@ -62,9 +63,9 @@ class Transfer:
 class Bank:
     """One run."""
 
-    def __init__(self, options: argparse.Namespace, folder: Path) -> None:
-        self.options, self.folder = options, folder
-        self.world = World(folder, BANKS, max(4, -(-options.clients // 2)), options.program)
+    def __init__(self, options: argparse.Namespace, folder: Path, banks: list[str]) -> None:
+        self.options, self.folder, self.banks = options, folder, banks
+        self.world = World(folder, banks, max(4, -(-options.clients // 2)), options.program)
         self.draw = random.Random(options.seed)
         self.transfers: list[Transfer] = []
         self.in_flight: dict[int, Transfer] = {}
@@ -72,7 +73,7 @@ class Bank:
         self.kills = 0
         self.faults: list[str] = []
         self.clusters: dict[str, Any] = {}
-        self.turns = {name: asyncio.Lock() for name in BANKS}  # nobody is killed while it is
+        self.turns = {name: asyncio.Lock() for name in banks}  # nobody is killed while it is
         self.ending = False
         self.taken_back = 0
         self.begun = 0.0
@@ -84,14 +85,14 @@ class Bank:
         resources: dict[str, Any] = {}
         if self.options.postgres:
             from .cluster import Cluster
-            for name in BANKS[:2]:
+            for name in self.banks[:2]:
                 self.clusters[name] = Cluster(self.folder / f"postgres-{name}")
                 self.clusters[name].start()
                 resources[name] = {"kind": "postgres", "connect": self.clusters[name].connect}
-        for name in BANKS:
+        for name in self.banks:
             resources.setdefault(name, {"kind": "sqlite", "file": "accounts.db", "tables": ["account", "transfer"]})
-        self.world.make(resources, CALLS, record=True, certificates=self.options.tls, more={"patience": 5.0, "retry_least": 0.3, "retry_most": 3.0})
-        for name in BANKS:
+        self.make_sites(resources)
+        for name in self.banks:
             accounts = [(f"{name}{k}", BALANCE) for k in range(ACCOUNTS)]
             if name in self.clusters:
                 self.ask_server(name, *TABLES, *(f"insert into account values ('{it}', {balance})" for it, balance in accounts))
@@ -101,6 +102,10 @@ class Bank:
                         connection.execute(table)
                     connection.executemany("insert into account values (?, ?)", accounts)
                 connection.close()
+
+    def make_sites(self, resources: dict[str, Any]) -> None:
+        more = {"patience": 5.0, "retry_least": 0.3, "retry_most": 3.0, "recycle_events": self.options.recycle, "compact_bytes": self.options.compact}
+        self.world.make(resources, CALLS, record=True, certificates=self.options.tls, more=more)
 
     def ask_server(self, name: str, *statements: str) -> list[Any]:
         import psycopg
@@ -115,7 +120,7 @@ class Bank:
         """Moves money, one transfer after the other."""
         connections: dict[str, client.Site] = {}
         while not self.ending:
-            root, *others = self.draw.sample(BANKS, 3)
+            root, *others = self.draw.sample(self.banks, 3)
             # (at times the root's bank pays itself, at times two others do, and the root only sees to it)
             source, target = (root, others[0]) if self.draw.random() < 0.5 else (others[0], others[1])
             transfer = Transfer(f"t{next(self.names)}", root, source, target, self.draw.randint(1, 50))
@@ -164,13 +169,16 @@ class Bank:
         restarts = []
         for moment in moments:
             await asyncio.sleep(max(0.0, self.begun + moment - time.monotonic()))
-            name = BANKS[0] if self.options.wrong and self.draw.random() < 0.6 else self.draw.choice(BANKS)
+            name = self.banks[0] if self.options.wrong and self.draw.random() < 0.6 else self.draw.choice(self.banks)
             for transfer in self.in_flight.values():
                 if name in transfer.sites:
                     transfer.saw_kill = f"{name} was killed"
             restarts.append(asyncio.create_task(self.kill_one(name)))
         for it in restarts:
             await it
+        # (fewer may be made good by chance, as votes for what rolls back anyway)
+        while self.options.wrong and self.taken_back < ENOUGH and time.monotonic() < self.begun + span + MOST_LONGER:
+            await self.kill_one(self.banks[0])
 
     async def kill_one(self, name: str) -> None:
         """A database, a process tpnode whose daemon starts it anew, or a daemon with its tpnode."""
@@ -186,19 +194,31 @@ class Bank:
                 with suppress(ProcessLookupError):
                     kill_process(number, signal.SIGKILL)
                 return
+            wrong = self.options.wrong and name == self.banks[0]
+            if wrong:
+                await self.moment(place)
             place.kill()
-            if self.options.wrong and name == BANKS[0]:
+            if wrong:
                 self.taken_back += take_back(place)
             await asyncio.sleep(self.draw.choice([0, 0.1, 0.5]))
             place.start()
 
+    async def moment(self, place: Place) -> None:
+        """Waits, ten seconds at most, until the last record is a vote or a root's Commit: the loss of another is made good by a retry."""
+        end = time.monotonic() + 10
+        while time.monotonic() < end:
+            last = last_record(place)
+            if last is not None and (last.kind is log.Kind.READY or last.kind is log.Kind.COMMIT and last.branch is None):
+                return
+            await asyncio.sleep(0.02)
+
     # The run.
 
     async def run(self) -> None:
-        self.say("three banks start ..")
+        self.say("the banks start ..")
         self.world.start()
         try:
-            await self.world.whole(60)
+            await self.world.whole(max(60, self.options.rest))
         except TimeoutError as error:
             self.faults.append(str(error))
             return
@@ -206,10 +226,10 @@ class Bank:
         tellers = [asyncio.create_task(self.teller(k)) for k in range(self.options.clients)]
         killing = asyncio.create_task(self.killer())
         end = self.begun + self.options.seconds
-        while (now := time.monotonic()) < end:
+        while (now := time.monotonic()) < end or self.options.wrong and not killing.done():
             done = sum(it.told == "committed" for it in self.transfers)
             self.say(f"{now - self.begun:5.1f} s   {done} transfers   {self.kills} kills")
-            await asyncio.sleep(min(0.2, end - now))
+            await asyncio.sleep(min(0.2, max(0.01, end - now)))
         self.seconds = time.monotonic() - self.begun
         self.ending = True
         await killing
@@ -251,10 +271,10 @@ class Bank:
     def judge(self) -> int:
         """Looks at what the banks hold; gives the sum of all money."""
         fault = self.faults.append
-        held = {name: self.read(name) for name in BANKS}
+        held = {name: self.read(name) for name in self.banks}
         total = sum(money for money, _, _ in held.values())
-        if total != len(BANKS) * ACCOUNTS * BALANCE:
-            fault(f"the sum of all money is {total}, and was {len(BANKS) * ACCOUNTS * BALANCE}")
+        if total != len(self.banks) * ACCOUNTS * BALANCE:
+            fault(f"the sum of all money is {total}, and was {len(self.banks) * ACCOUNTS * BALANCE}")
         for name, (_, _, back) in held.items():
             if back:
                 fault(f"{name} holds {back} changes back")
@@ -264,24 +284,37 @@ class Bank:
             if there != wanted:
                 fault(f"{transfer.name} ({transfer.tree}) was told {transfer.told}, and stands as {there[0]} at {transfer.source} "
                       f"and {there[1]} at {transfer.target}")
-        for name in BANKS:
-            logged = {str(it) for it in log.committed((self.world.places[name].folder / "tp.log").read_bytes(), name)}
+        for name in self.banks:
+            logged = committed(self.world.places[name])
             told = {it.tree for it in self.transfers if it.root == name and it.told == "committed"}
             if logged != told:
                 fault(f"the log of {name} commits {len(logged)} trees, and {len(told)} were told so; they differ in {sorted(logged ^ told)[:3]}")
         return total
 
 
+def committed(place: Place) -> set[str]:
+    """The trees of a site's roots that its log commits, or did before it was compacted."""
+    earlier = place.folder / "committed"
+    found = {str(it) for it in log.committed((place.folder / "tp.log").read_bytes(), place.name)}
+    return found | set(earlier.read_text("ascii").split() if earlier.exists() else [])
+
+
+def last_record(place: Place) -> log.Entry | None:
+    content = (place.folder / "tp.log").read_bytes()
+    gates = log.places(content)[0]
+    body = log.body_at(content, gates[-1]) if gates else log.VERSION
+    return None if body == log.VERSION else log.read_entry(body)
+
+
 def take_back(place: Place) -> int:
     """The wrong site: its log loses the last record at a kill, as though it had answered before it forced."""
     path = place.folder / "tp.log"
     path.with_name("tp.seal").unlink(missing_ok=True)
-    content = path.read_bytes()
-    gates = log.places(content)[0]
-    if not gates or log.body_at(content, gates[-1])[0] == log.Kind.BOOT:
+    last = last_record(place)
+    if last is None or last.kind is log.Kind.BOOT:
         return 0
     with open(path, "r+b") as file:
-        file.seek(gates[-1])
+        file.seek(log.places(path.read_bytes())[0][-1])
         file.write(b"\x00")
     return 1
 
@@ -310,8 +343,8 @@ def tell(bank: Bank, total: int, audit: tuple[int, str]) -> None:
     held = "SQLite" if not bank.clusters else "PostgreSQL, PostgreSQL, SQLite"
     print(f"transfers  {counts['committed']} committed, {counts['rolled back']} rolled back, {counts['in doubt']} in doubt; "
           f"{counts['committed'] / max(bank.seconds, 1):.1f} a second")
-    print(f"kills      {bank.kills}" + (f", and {bank.taken_back} records taken back from the log of {BANKS[0]}" if bank.options.wrong else ""))
-    print(f"money      {total} of {len(BANKS) * ACCOUNTS * BALANCE} ({held})")
+    print(f"kills      {bank.kills}" + (f", and {bank.taken_back} records taken back from the log of {bank.banks[0]}" if bank.options.wrong else ""))
+    print(f"money      {total} of {len(bank.banks) * ACCOUNTS * BALANCE} ({held})")
     print(f"audit      {audit[1].strip().replace(chr(10), '; ')}")
     if bank.options.draw:
         print(f"picture    {picture(bank)}")
@@ -325,7 +358,7 @@ def tell(bank: Bank, total: int, audit: tuple[int, str]) -> None:
 def one_run(options: argparse.Namespace) -> int:
     folder = Path(tempfile.mkdtemp(prefix="bank-", dir=options.folder))
     folder.chmod(0o755)
-    bank = Bank(options, folder)
+    bank = Bank(options, folder, BANKS)
     try:
         bank.make()
         asyncio.run(bank.run())
@@ -355,6 +388,8 @@ def main() -> int:
     parser.add_argument("--postgres", action="store_true", help="two of the banks keep their accounts in private servers of PostgreSQL")
     parser.add_argument("--tls", action="store_true", help="the banks speak over TLS, each with a certificate of its own")
     parser.add_argument("--wrong", action="store_true", help="a site that is wrong: its log loses the last record at each kill; the status must be 1")
+    parser.add_argument("--recycle", type=int, default=900_000, help="events after which a site's tpnode is replaced (900,000)")
+    parser.add_argument("--compact", type=int, default=32 * 1024 * 1024, help="bytes of a log above which it is then compacted (33,554,432)")
     parser.add_argument("--seed", type=int, help="of the draws; processes have none, so no two runs are alike")
     parser.add_argument("--folder", type=Path, help="where the sites' folders are made")
     parser.add_argument("--keep", action="store_true", help="leave them there")

@@ -88,8 +88,9 @@ class Link:
         self.wake.set()
 
     async def run(self) -> None:
+        """As long as it is the carrier's link to this peer: two would throw out each other's connections for ever."""
         pause = LEAST_PAUSE
-        while True:
+        while self.carrier.links.get(self.peer.name) is self:
             try:
                 await self.connection()
                 pause = LEAST_PAUSE
@@ -134,8 +135,7 @@ class Link:
                 await asyncio.gather(reading, return_exceptions=True)
             finally:
                 sending.cancel()
-                with contextlib.suppress(asyncio.CancelledError, OSError, TimeoutError):
-                    await sending
+                await asyncio.gather(sending, return_exceptions=True)  # (what ends the link itself is not held back here)
         finally:
             writer.transport.abort()
 

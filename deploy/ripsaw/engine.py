@@ -18,7 +18,7 @@ MOST_WAITING = 20_000  # events without an answer above which nothing more is re
 
 
 class Engine(asyncio.SubprocessProtocol):
-    def __init__(self, given: Callable[[wire.Event], None], written: Callable[[], None], answered: Answered) -> None:
+    def __init__(self, given: Callable[[wire.Event], None], written: Callable[[], bool], answered: Answered) -> None:
         self.given, self.written, self.answered = given, written, answered
         self.waiting: deque[tuple[wire.Event, Then]] = deque()
         self.events = 0
@@ -31,11 +31,11 @@ class Engine(asyncio.SubprocessProtocol):
         self.ended: asyncio.Future[int] = self.loop.create_future()
         self.has_room = asyncio.Event()
         self.has_room.set()
-        self.closing = False
+        self.closing = self.killed = False
 
     @staticmethod
     async def start(program: list[str], name: str, folder: Path, lock: int, given: Callable[[wire.Event], None],
-                    written: Callable[[], None], answered: Answered) -> Engine:
+                    written: Callable[[], bool], answered: Answered) -> Engine:
         """Starts the process. It inherits the lock of the folder, so that no other daemon starts beside one that still ends."""
         engine = Engine(given, written, answered)
         await engine.loop.subprocess_exec(lambda: engine, *program, "node", "--name", name, cwd=folder, pass_fds=(lock,))
@@ -57,8 +57,7 @@ class Engine(asyncio.SubprocessProtocol):
     def write(self) -> None:
         pieces, self.unwritten = self.unwritten, []
         pipe = self.pipe()
-        if pieces and pipe is not None and not pipe.is_closing():
-            self.written()
+        if pieces and pipe is not None and not pipe.is_closing() and self.written():
             pipe.write(b"".join(pieces))
 
     def pipe(self) -> asyncio.WriteTransport | None:
@@ -78,6 +77,7 @@ class Engine(asyncio.SubprocessProtocol):
         await asyncio.shield(self.ended)
 
     def kill(self) -> None:
+        self.killed = True  # (nothing that it still said is acted upon)
         if self.transport is not None and self.transport.get_returncode() is None:
             self.transport.kill()
 
@@ -91,6 +91,8 @@ class Engine(asyncio.SubprocessProtocol):
             self.said = (self.said + data)[-2000:]
             return
         for body in self.frames.feed(data):
+            if self.killed:
+                return
             output = wire.read_output(body)
             if output is not wire.OVER:
                 self.outputs.append(output)

@@ -11,6 +11,7 @@ from pathlib import Path
 from .wire import Identifier, Outcome, Reader, Report
 
 FRESH = bytes.fromhex("4f54504c01" "01" "0002" "0702" "00")
+VERSION = b"\x07\x02"  # the body that a log of this version begins with
 
 
 class Kind(IntEnum):
@@ -99,7 +100,7 @@ def standing(log: bytes) -> Standing:
     found = Standing()
     for gate in places(log)[0]:
         body = body_at(log, gate)
-        if body == b"\x07\x02":
+        if body == VERSION:
             continue
         entry = read_entry(body)
         if entry.kind is Kind.BOOT:

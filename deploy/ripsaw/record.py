@@ -10,6 +10,8 @@ Each line is a time in seconds and one of these:
 """
 from __future__ import annotations
 
+import errno
+import os
 import time
 from dataclasses import dataclass, field
 from functools import cached_property
@@ -53,7 +55,12 @@ class Recorder:
         piece = b"".join(self.lines)
         self.lines.clear()
         self.size += len(piece)
-        self.file.write(piece)
+        try:
+            if self.file.write(piece) != len(piece):
+                raise OSError(errno.ENOSPC, os.strerror(errno.ENOSPC))
+        except OSError:
+            self.size = MOST_BYTES + 1  # (a line may be cut short, and is then the last of its file)
+            raise
 
     def rotate(self) -> None:
         if self.file is not None:

@@ -107,7 +107,9 @@ class Site:
         except (OSError, ValueError):
             last = 0
         number = max(last + 1, time.time_ns())
-        path.write_text(f"{number}\n")
+        new = path.with_suffix(".new")  # (a stop or a full disk leaves the old one whole)
+        new.write_text(f"{number}\n")
+        new.replace(path)
         return number
 
     def make_nodes(self) -> None:
@@ -196,7 +198,7 @@ class Site:
             status = await engine.ended
             if self.recorder is not None:
                 self.recorder.add("end", str(status))
-                self.recorder.flush()
+                self.written()
             if self.stopping.is_set():
                 return
             await self.between(engine, status)
@@ -204,8 +206,23 @@ class Site:
                 await asyncio.sleep(pause)
                 pause = min(2 * pause, 5.0) if engine.events < 10_000 else 0.1
             self.draining = False
-            await self.launch(lock)
-            await self.carrier.begin_again(self.next_incarnation())
+            await self.launch_again(lock)
+
+    async def launch_again(self, lock: int) -> None:
+        """Where the disk has no room for what a start writes, it waits until it has."""
+        pause = 0.1
+        while True:
+            try:
+                incarnation = self.next_incarnation()
+                await self.launch(lock)
+                break
+            except OSError as error:
+                self.note(f"cannot start anew: {error}")
+                if self.stopping.is_set():
+                    raise
+            await asyncio.sleep(pause)
+            pause = min(2 * pause, 5.0)
+        await self.carrier.begin_again(incarnation)
 
     async def used_up(self, engine: Engine) -> None:
         while engine.events < self.settings.recycle_events:
@@ -234,7 +251,10 @@ class Site:
         if status == FOREIGN or (status == DISK and any(it in said for it in REFUSED)):
             raise SiteFailed(f"{self.log}: {said}")
         if self.log.stat().st_size > self.settings.compact_bytes or (status == LIMIT and "limit log" in said):
-            await self.compact()
+            try:
+                await self.compact()
+            except OSError as error:
+                self.note(f"the log is not compacted: {error}")
 
     async def compact(self) -> None:
         """Commits that the compaction takes away are written down first: `outcome` looks for them there."""
@@ -274,7 +294,8 @@ class Site:
 
     def note(self, what: str) -> None:
         self.counts["notes"] += 1
-        print(f"{time.strftime('%H:%M:%S')} {self.settings.name}: {what}", file=sys.stderr, flush=True)
+        with contextlib.suppress(OSError):  # (where it goes may be a file on a full disk)
+            print(f"{time.strftime('%H:%M:%S')} {self.settings.name}: {what}", file=sys.stderr, flush=True)
 
     def freed(self, node: Node) -> None:
         if isinstance(node, Root) and self.waiting:
@@ -299,15 +320,24 @@ class Site:
         if self.recorder is not None:
             self.recorder.given(event)
 
-    def written(self) -> None:
-        if self.recorder is not None:
-            self.recorder.flush()
+    def written(self) -> bool:
+        """The record has what is now acted upon; where the disk has no room for it, the process is started anew."""
+        try:
+            if self.recorder is not None:
+                self.recorder.flush()
+        except OSError as error:
+            self.note(f"the record: {error}")
+            if self.engine is not None:
+                self.engine.kill()
+            return False
+        return True
 
     def answered(self, event: wire.Event, outputs: list[wire.Output]) -> None:
         self.counts["events"] += 1
         if self.recorder is not None:
             self.recorder.answered(outputs)
-            self.recorder.flush()
+        if not self.written():
+            return
         for output in outputs:
             if isinstance(output, wire.Send):
                 self.carrier.send(output)

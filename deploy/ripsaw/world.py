@@ -4,6 +4,7 @@ from __future__ import annotations
 import asyncio
 import json
 import os
+import random
 import shutil
 import signal
 import socket
@@ -16,17 +17,22 @@ from . import client
 from .wire import frame, octets, text_of_site
 
 PACKAGE = Path(__file__).resolve().parent.parent
+PORTS = 12_000, 32_000
 
 
 def free_ports(count: int) -> list[int]:
-    """Ports of loopback that nobody listens on."""
-    sockets = [socket.socket() for _ in range(count)]
-    for it in sockets:
-        it.bind(("127.0.0.1", 0))
-    ports = [int(it.getsockname()[1]) for it in sockets]
-    for it in sockets:
+    """Ports of loopback that nobody listens on, below those that the system gives to connections."""
+    sockets: dict[int, socket.socket] = {}
+    while len(sockets) < count:
+        port, it = random.randrange(*PORTS), socket.socket()
+        try:
+            it.bind(("127.0.0.1", port))
+            sockets[port] = it
+        except OSError:
+            it.close()
+    for it in sockets.values():
         it.close()
-    return ports
+    return list(sockets)
 
 
 def toml(value: Any) -> str:

@@ -175,7 +175,7 @@ def test_recycling_and_compaction(tmp_path: Path) -> None:
                     trees.append(t.tree)
                 except (client.RolledBack, client.CallFailed):
                     await asyncio.sleep(0.1)
-            assert len(trees) > 30
+            assert len(trees) > 20
             assert [await bank.outcome(it) for it in trees] == ["commit"] * len(trees)
         assert await balance(world, "shop") == 100 + len(trees)
         for name in ("bank", "shop"):
