@@ -98,6 +98,8 @@ class Stops:
         syncs = [k for k, (name, _) in enumerate(changes, 1) if name == "fsync"]
         lists = self.look(case, [case.start] + [it.disk for it in self.runs(case, [{"stop": "%d new" % k} for k in syncs])])
         due = self.due(case, lists)
+        if case.words[0] in ("compact", "migrate") and standing(case.start) != standing(whole.disk):
+            self.fault(case, "leaves %s, where %s stood" % (standing(whole.disk), standing(case.start)))
         whole_list = self.look(case, [whole.disk])[0]
         for k, (_, out) in enumerate(changes, 1):
             done = sum(it < k for it in syncs)
@@ -200,6 +202,15 @@ def node_log(stops, words, start, bodies):
     if run.status != 0:
         sys.exit("a log cannot be made: %s" % run.err)
     return run.disk
+
+
+def standing(log):
+    """The greatest boot number, and of each key without End the last record of each kind, as wire.py reads them."""
+    order, boots = wire.Order(), [0]
+    for _, record in wire.records_of(log):
+        order.add(record)
+        boots += [record.number] if record.kind == "boot" else []
+    return max(boots), sorted(sorted({it.kind: it.words() for it in records}.values()) for records in order.since.values() if records[-1].kind != "end")
 
 
 def cut_compactions(stops, words, start, steps):
