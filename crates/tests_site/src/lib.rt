@@ -1,18 +1,11 @@
-//! Tests of a site and of what stands on it, over their public calls: demarcation, and the audit of logs.
+//! Tests of what stands on a site, over public calls: whole runs over frames, calls that no program makes, and workers.
 //!
-//! A test shows what no clause says: that calls succeed with ample memory, and that their answers are those
-//! of worked examples.
+//! A test shows what no clause says: that calls succeed with ample memory, and that two workers run at once.
 #![tactic(auto)]
 
 #[cfg(test)]
-mod audit;
+mod calls;
 #[cfg(test)]
-mod event;
+mod driven;
 #[cfg(test)]
-mod face;
-#[cfg(test)]
-mod recalled;
-#[cfg(test)]
-mod site;
-#[cfg(test)]
-mod values;
+mod frames;
