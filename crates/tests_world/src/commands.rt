@@ -1,7 +1,6 @@
 //! Whole runs of commands, with expected bytes from outside, and the texts of endings.
 use std::alloc::Global;
 use tp_commands::run;
-use tp_journal::StartFault;
 use tp_model::{What, Why};
 use tp_names::Octets;
 use tp_outside::{MemDisk, MemSink, MemSource};
@@ -9,12 +8,6 @@ use tp_replay::{Status, open_store, participants};
 
 /// The node of the store that is member 3.
 const STORE_NODE: u16 = 2;
-
-const SCHEDULE: &str =
-    "node 1 a\nnode 2 b under 1\ndo 1 begin-dialogue 2 scu\ndrain\n# the answer\n\ndo 2 accept scu\npass 2 1\npass 2 1\n";
-
-const TRANSCRIPT: &str =
-    "> node 1 a\nlog a boot 1\n> node 2 b under 1\nlog b boot 1\n> do 1 begin-dialogue 2 scu\nsend 1 1 2 open 1.1.1 scu\n> drain\ntake 1\ntell 2 begin-dialogue 1 scu\n> do 2 accept scu\nsend 2 2 1 accept 1.1.1 1.2.1 scu\n> pass 2 1\ntake 2\ntell 1 begun-dialogue 2 scu\n> pass 2 1\nnothing\n";
 
 fn octets(alloc: Global, bytes: &[u8]) -> Option<Octets> {
     Octets::from_slice(alloc, bytes).ok()
@@ -37,18 +30,6 @@ fn ran(alloc: Global, words: &[&str], bytes: &[u8], fails: Fails) -> Option<(Sta
     let members = participants::<MemDisk>(alloc, None).ok()?;
     let (status, _disk) = run(alloc, words, &mut source, &mut sink, disk, members);
     Some((status, sink))
-}
-
-// The status of a run of these words that wrote these bytes and no others.
-fn status_of(
-    alloc: Global,
-    words: &[&str],
-    bytes: &[u8],
-    fails: Fails,
-    written: &str,
-) -> Option<Status> {
-    let (status, sink) = ran(alloc, words, bytes, fails)?;
-    (sink.bytes() == written.as_bytes()).then_some(status)
 }
 
 #[test]
@@ -135,113 +116,6 @@ fn commands_over_a_disk(rt: HostRuntime) {
     }
 }
 
-// The same of a replay.
-fn replayed(alloc: Global, text: &str, fails: Fails, written: &str) -> Option<Status> {
-    status_of(alloc, &["replay"], text.as_bytes(), fails, written)
-}
-
-const DRIVEN: &str = "node 1 a\nnode 2 b under 1\nauto 2 1\ndo 1 begin-dialogue 2 scu\ndrain\n";
-
-const ANSWERED: &str =
-    "> node 1 a\nlog a boot 1\n> node 2 b under 1\nlog b boot 1\n> do 1 begin-dialogue 2 scu\nsend 1 1 2 open 1.1.1 scu\n> drain\ntake 1\ntell 2 begin-dialogue 1 scu\n> do 2 accept scu\nsend 2 2 1 accept 1.1.1 1.2.1 scu\n";
-
-#[test]
-fn schedules_are_replayed(rt: HostRuntime) {
-    let status = replayed(rt.alloc(), SCHEDULE, NO_FAILS, TRANSCRIPT);
-    assert!(rt; matches!(status, Some(Status::Ok)));
-    let status = replayed(rt.alloc(), "", NO_FAILS, "");
-    assert!(rt; matches!(status, Some(Status::Ok)));
-    let status = replayed(rt.alloc(), DRIVEN, NO_FAILS, ANSWERED);
-    assert!(rt; matches!(status, Some(Status::Ok)));
-}
-
-const NO_COMMANDS: &[&[&str]] = &[&[], &["play"], &["replay", "--name", "A"]];
-
-#[test]
-fn words_that_ask_for_no_command(rt: HostRuntime) {
-    for words in NO_COMMANDS {
-        let status = status_of(rt.alloc(), words, SCHEDULE.as_bytes(), NO_FAILS, "");
-        assert!(rt; matches!(status, Some(Status::Usage)));
-    }
-}
-
-const DECLARED: &str = "> node 1 a\nlog a boot 1\n> node 2 b under 1\nlog b boot 1\n";
-
-// Why a run of that line after two nodes, which alone show anything, is refused at it.
-fn refused_by(alloc: Global, line: &str) -> Option<Why> {
-    let text = format!(in alloc; "node 1 a\nnode 2 b under 1\n{line}\n").ok()?;
-    match replayed(alloc, text.as_str(), NO_FAILS, DECLARED)? {
-        Status::BadInput { at: 3, why } => Some(why),
-        _ => None,
-    }
-}
-
-const BAD: &[(&str, Why)] = &[
-    ("fly", Why::Word),
-    ("node 65536 c", Why::Number),
-    ("do 3 commit", Why::Name),
-    ("do 1 begin-dialogue 3 scu", Why::Name),
-    ("pass 1 3", Why::Name),
-    ("again 1", Why::Name),
-    ("node 2 c", Why::Name),
-    ("auto 3 1", Why::Name),
-    ("auto 1 3", Why::Name),
-    ("leave 3", Why::Name),
-];
-
-#[test]
-fn lines_that_are_bad(rt: HostRuntime) {
-    for (line, wanted) in BAD {
-        assert!(rt; refused_by(rt.alloc(), line) == Some(*wanted), "{line}");
-    }
-}
-
-// The status of a replay of so many empty lines.
-fn after_empty_lines(alloc: Global, count: usize) -> Option<Status> {
-    let bytes = vec![in alloc; b'\n'; count].ok()?;
-    let (status, _sink) = ran(alloc, &["replay"], &bytes, NO_FAILS)?;
-    Some(status)
-}
-
-#[test]
-fn the_schedule_has_a_limit(rt: HostRuntime) {
-    let status = after_empty_lines(rt.alloc(), 1_048_576);
-    assert!(rt; matches!(status, Some(Status::Ok)));
-    let status = after_empty_lines(rt.alloc(), 1_048_577);
-    let past = Status::Limit {
-        what: What::Schedule,
-        at: 1_048_577,
-    };
-    assert!(rt; status == Some(past));
-}
-
-#[test]
-fn faults_are_told_with_the_count(rt: HostRuntime) {
-    let ended = on_disk(rt.alloc(), "format", b"what stood there", &[1]);
-    let (status, _sink, _disk) = ended.expect(&rt, "in memory");
-    assert!(rt; status == Status::DiskFault { faults: 1 });
-    let status = replayed(rt.alloc(), SCHEDULE, (&[2], &[]), TRANSCRIPT);
-    assert!(rt; matches!(status, Some(Status::ReadFault { faults: 1 })));
-    let status = replayed(rt.alloc(), SCHEDULE, (&[], &[1]), "");
-    assert!(rt; matches!(status, Some(Status::WriteFault { faults: 1 })));
-}
-
-// The lines whose texts are one piece, which is written as soon as it has 64 KiB.
-const PIECE: usize = 8192;
-
-// The status of a replay of two such pieces, of which the second is not written.
-fn after_one_piece(alloc: Global) -> Option<Status> {
-    let schedule = "drain\n".repeat(alloc, 2 * PIECE).ok()?;
-    let written = "> drain\n".repeat(alloc, PIECE).ok()?;
-    replayed(alloc, schedule.as_str(), (&[], &[2]), written.as_str())
-}
-
-#[test]
-fn a_write_fault_comes_after_what_was_written(rt: HostRuntime) {
-    let status = after_one_piece(rt.alloc());
-    assert!(rt; matches!(status, Some(Status::WriteFault { faults: 1 })));
-}
-
 // Node 1 gives node 2 a write, or what is none, and asks for commitment; member 3 drives node 2.
 const GIVES_A_WRITE: &str =
     "node 1 a\nnode 2 b under 1\nauto 2 3\ndo 1 begin-dialogue 2 scu\ndrain\ndrain\ndo 1 begin-transaction 2\ndo 1 data 2 01016b000176\ndo 1 commit\ndrain\ndrain\ndo 1 done\ndrain\n";
@@ -270,21 +144,6 @@ fn a_store_drives_a_node(rt: HostRuntime) {
     assert!(rt; status == Status::Ok && sink.bytes().ends_with(b"tree a.1.1.2 agreed commit\n"));
     let (status, sink) = with_store(rt.alloc(), GIVES_NO_WRITE).expect(&rt, "in memory");
     assert!(rt; status == Status::Ok && sink.bytes().ends_with(b"tree a.1.1.2 agreed rollback\n"));
-}
-
-// A store is not opened on a disk that has no log, nor on one that fails.
-fn not_opened(alloc: Global, bytes: &[u8], fails: &[u8]) -> Option<StartFault> {
-    let disk = MemDisk::failing(alloc, octets(alloc, bytes)?, octets(alloc, fails)?);
-    match open_store(alloc, disk, STORE_NODE) {
-        Ok(_) => None,
-        Err((_, fault)) => Some(fault),
-    }
-}
-
-#[test]
-fn a_store_is_not_opened(rt: HostRuntime) {
-    assert!(rt; not_opened(rt.alloc(), b"no log", &[]) == Some(StartFault::Foreign { at: 0 }));
-    assert!(rt; not_opened(rt.alloc(), b"", &[1]) == Some(StartFault::DiskFault { faults: 1 }));
 }
 
 fn is_shown_as(alloc: Global, status: Status, text: &str) -> bool {
