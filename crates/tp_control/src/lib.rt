@@ -14,7 +14,6 @@ ghost use Rattle.tp_model.specs.History.{digest};
 ghost use Rattle.tp_model.specs.Questions.{is_at};
 ghost use Rattle.tp_model.specs.Legal.{IsGrown};
 ghost use Rattle.tp_model.specs.Happenings.{Happening, run};
-ghost use Rattle.tp_model.specs.Promises.{OneHolder};
 ghost use Rattle.tp_histories.specs.Traces.{sent_on, accepted_on};
 ghost use Rattle.tp_steps.specs.Moves.{IsPut};
 ghost use Rattle.tp_histories.specs.Control.{answered};
@@ -50,9 +49,4 @@ pub fn branches_are_led()
 /// round that is not answered, and gave nothing ahead of it.
 pub fn holders_above_took_back()
     ensures { (es : List Happening) → TookBack (run es) }
-{}
-
-/// In every run, two live ends of one polarized dialogue never both hold control.
-pub fn one_holder()
-    ensures { (es : List Happening) → OneHolder (run es) }
 {}

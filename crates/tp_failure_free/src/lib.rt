@@ -68,21 +68,3 @@ pub fn what_a_node_decides_it_says()
 pub fn branches_without_a_report_leave_none()
     ensures { (t : Aaid) (o : Origin) (up : Option Addr) (h : List Entry) → IsUnfailed t o up h → ClearReport t o h }
 {}
-
-/// In every run, a tree has committed where each user asked for commitment or left, each word of the tree was taken, no user owes its
-/// done, and nothing failed in the tree while it was current at its nodes: every node that stays logged Commit and was told that it
-/// is complete, with no report; and the tree's closing line says that all agree on commitment. What failed at these nodes before the
-/// tree began there or after it was over, or of another dialogue, does not count, nor do the frames of it.
-pub fn a_settled_tree_has_committed()
-    ensures nodes { (es : List Happening) → SettledTreeCommits (run es) }
-    ensures line { (es : List Happening) → SettledTreeCloses (run es) }
-{}
-
-/// In every run, a drained tree without failure whose users all asked for commitment, or left, has committed: where each frame that
-/// its nodes sent was taken and no user owes its done, every node that stays logged Commit and was told that it is complete, with no
-/// report; and the tree's closing line says that all agree on commitment. Such a tree is settled in its own time.
-pub fn a_drained_tree_has_committed()
-    ensures nodes { (es : List Happening) → DrainedCommits (run es) }
-    ensures line { (es : List Happening) → SettledCloses (run es) }
-    ensures settled { (es : List Happening) → SettledInItsTime (run es) }
-{}

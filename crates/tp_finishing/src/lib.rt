@@ -14,16 +14,6 @@ ghost use Rattle.tp_finishing.specs.Again.{LostIsSaidAgain};
 ghost use Rattle.std.specs.Prelude.{List};
 ghost use Rattle.tp_model.specs.Happenings.{Happening, run};
 
-// Promise 23.1 [tp_finishing/specs/Doubt.antt]: A node in doubt whose superior is neither active
-//   nor in doubt commits or rolls back after one retry of its own and the delivery of two frames
-//   that were sent since, and no association need be lost for it, as long as each of its own that
-//   is live has a number left for a record to each branch and one more
-/// In every run, a node in doubt whose superior is neither active nor in doubt hears how its tree ended by one retry and the
-/// delivery of two frames that were sent since, and no association need be lost for it: it commits, or it rolls back.
-pub fn doubt_ends()
-    ensures { DoubtEnds }
-{}
-
 // Promise 23.2 [tp_finishing/specs/Quiet.antt]: From every run some stops of sites, at most as many
 //   as there are sites, leave no association anywhere, and no node that is active or rolls back
 /// From every run, some stops of sites, at most as many as there are sites, lead to a world in which no node has an association, and none
@@ -86,18 +76,4 @@ pub fn every_run_ends()
     // Promise 23.9 [tp_finishing/specs/Finishing.antt]: Or by so many cuts (23.5) in place of the
     //   stops, where there are numbers left for them
     ensures cuts { CutsEnd }
-{}
-
-// Promise 23.7 [tp_finishing/specs/Again.antt]: **What a stop may have swallowed is said again**: a
-//   node whose site stops and starts, that is declared and retries, tells its user to commit and
-//   orders its branches to that did not leave, where it commits; asks its superior, where it is in
-//   doubt; of each commitment that it keeps it orders the branches that are owed, and reports to its
-//   superior. What was active or rolled back is over. Where nothing is current, a user that asks to commit or
-//   to roll back, or says that it changed nothing or has finished, is refused with `NoTransaction`
-/// In every run, what a stop may have swallowed is said again: a node whose site stops and starts, which is declared and retries, tells
-/// its user to commit and orders its branches to that did not leave, where it commits; asks its superior, where it is in doubt; and of each
-/// commitment that it keeps orders the branches that it owes, and reports to its superior. What was active or rolled back is over, and is not
-/// told again: a user that still speaks of it is refused with `NoTransaction`.
-pub fn what_was_lost_is_said_again()
-    ensures { (es : List Happening) → LostIsSaidAgain (run es) }
 {}

@@ -18,7 +18,7 @@ ghost use Rattle.tp_model.specs.Transactions.{Transaction, transacted};
 ghost use Rattle.tp_model.specs.Events.{refusal, action};
 ghost use Rattle.tp_model.specs.Promises.{IsIn};
 ghost use Rattle.tp_model.specs.World.{Node};
-ghost use Rattle.tp_model.specs.Legal.{IsGrown, is_start, are_in_order, RestartIsCrash, RecordsFollow, StartsAgain};
+ghost use Rattle.tp_model.specs.Legal.{IsGrown};
 ghost use Rattle.tp_steps.specs.Moves.{IsPut, IsLate, prelude};
 ghost use Rattle.tp_steps.specs.Facts.{Reads};
 ghost use Rattle.tp_histories.specs.Members.{IsOnce};
@@ -129,24 +129,4 @@ pub fn kept_is_in_the_log()
     ensures kept { (o : Origin) (up : Option Addr) (h : List Entry) → IsGrown o up h → (digest (again o h) []).kept ≡ (digest o (crashed h)).kept }
     ensures boot { (o : Origin) (h : List Entry) → (digest (again o h) []).boot ≡ (digest o (crashed h)).boot }
     ensures version { (o : Origin) (up : Option Addr) (h : List Entry) → IsGrown o up h → (digest (again o h) []).version ≡ (digest o (crashed h)).version }
-{}
-
-/// A start over the records of a log, with the next boot number, leaves the same as a crash: in every legal history, and
-/// in every run.
-pub fn restart_is_a_crash()
-    ensures history { RestartIsCrash }
-    ensures run { (es : List Happening) (x : Node) → IsIn (run es) x → digest (again x.origin x.history) [] ≡ digest x.origin (crashed x.history) }
-{}
-
-/// The records of a node's log stay in order after its last boot, each following those before it: in every legal history,
-/// and in every run.
-pub fn records_stay_in_order()
-    ensures history { RecordsFollow }
-    ensures run { (es : List Happening) (x : Node) → IsIn (run es) x → are_in_order x.origin x.history ≡ true }
-{}
-
-/// The records of a node's log are such as its next start may find: in every legal history, and in every run.
-pub fn the_next_start_finds_its_records()
-    ensures history { StartsAgain }
-    ensures run { (es : List Happening) (x : Node) → IsIn (run es) x → is_start (again x.origin x.history) ≡ true }
 {}

@@ -9,7 +9,7 @@ ghost use Rattle.tp_model.specs.Parts.{Origin, Entry, Arc, Current};
 ghost use Rattle.tp_model.specs.Arcs.{find_arc};
 ghost use Rattle.tp_names.specs.declared.identifiers.NodeKey.{NodeKey};
 ghost use Rattle.tp_model.specs.History.{digest};
-ghost use Rattle.tp_model.specs.Legal.{IsLegal, DigestAgrees};
+ghost use Rattle.tp_model.specs.Legal.{IsLegal};
 ghost use Rattle.tp_model.specs.Consistency.{IsKnown};
 ghost use Rattle.tp_histories.specs.KnownTests.{agrees, is_quiet};
 ghost use Rattle.tp_histories.specs.Known.{declared_agrees, superior_agrees, boot_agrees};
@@ -163,11 +163,6 @@ pub fn marks_are_known()
     ensures given_up { (o : Origin) (up : Option Addr) (h : List Entry) → IsLegal o up h → given_up_agrees o h ≡ true }
     ensures ended { (o : Origin) (up : Option Addr) (h : List Entry) → IsLegal o up h → ended_agrees o h ≡ true }
     ensures all { (o : Origin) (up : Option Addr) (h : List Entry) → IsLegal o up h → marks_agree o h ≡ true }
-{}
-
-/// In every legal history, all that is known of the node is what the questions to its whole history answer.
-pub fn the_whole_is_known()
-    ensures { DigestAgrees }
 {}
 
 /// A test that computes stands for it: it holds wherever all that is known is what the questions answer; and where it holds,

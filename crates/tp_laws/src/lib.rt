@@ -204,6 +204,10 @@ pub fn a_deployment_keeps_the_promises()
     ensures stays { DeploymentsStay }
 {}
 
+// Promise 23.1 [tp_finishing/specs/Doubt.antt]: A node in doubt whose superior is neither active
+//   nor in doubt commits or rolls back after one retry of its own and the delivery of two frames
+//   that were sent since, and no association need be lost for it, as long as each of its own that
+//   is live has a number left for a record to each branch and one more
 /// In every run, a node in doubt whose superior is neither active nor in doubt hears how its tree ended by one retry and the delivery of
 /// two frames that were sent since, and no association need be lost for it: it commits, or it rolls back.
 pub fn doubt_ends()
@@ -222,6 +226,12 @@ pub fn no_run_is_stuck()
     ensures closed { OverIsClosed }
 {}
 
+// Promise 23.7 [tp_finishing/specs/Again.antt]: **What a stop may have swallowed is said again**: a
+//   node whose site stops and starts, that is declared and retries, tells its user to commit and
+//   orders its branches to that did not leave, where it commits; asks its superior, where it is in
+//   doubt; of each commitment that it keeps it orders the branches that are owed, and reports to its
+//   superior. What was active or rolled back is over. Where nothing is current, a user that asks to commit or
+//   to roll back, or says that it changed nothing or has finished, is refused with `NoTransaction`
 /// In every run, what a stop may have swallowed is said again once the node is declared and retries: to commit, to its user and its branches,
 /// where it commits; the question to its superior, where it is in doubt; and of each commitment that it keeps, the order to the branches that
 /// it owes and the report to its superior. What was active or rolled back is over.

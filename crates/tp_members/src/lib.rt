@@ -2,37 +2,15 @@
 //! Each is the contract of a function with an empty body; two worked examples stand after them.
 #![tactic(auto)]
 
-ghost use Rattle.std.specs.Prelude.{ℕ, ◌≡◌, ◌∷◌, Option, Some, None, List, [], true, map};
+ghost use Rattle.std.specs.Prelude.{◌≡◌, ◌∷◌, Some, None, [], true, map};
 ghost use Rattle.tp_names.specs.declared.outcome.Outcome.{Outcome};
-ghost use Rattle.tp_records.specs.declared.request.Request.{Request};
-ghost use Rattle.tp_model.specs.declared.line.Line.{Line};
 ghost use Rattle.tp_model.specs.World.{empty_world};
 ghost use Rattle.tp_model.specs.Trees.{closing};
 ghost use Rattle.tp_model.specs.Transcript.{transcript_with, Done};
 ghost use Rattle.tp_model.specs.Lines.{Name};
-ghost use Rattle.tp_model.specs.Expand.{played_all, expanded, IsExpanded};
-ghost use Rattle.tp_members.specs.Expansion.{LeavesItsWorld, ClosesAlike, IsWrittenOut, SpeaksOfNone, IsOfRun, lines_in};
+ghost use Rattle.tp_model.specs.Expand.{played_all, expanded};
+ghost use Rattle.tp_members.specs.Expansion.{lines_in};
 ghost use Rattle.tp_members.specs.Schedules.{as_text, driven_branch, its_answers, written_out, has_refusal, agreed_on};
-
-/// What members do can be written out. For every number of members, every list of lines and every list of answers, no line
-/// of the expansion speaks of members; and where no line ends the run, the expansion shows without members the lines that
-/// are shown with them, leaves the same world but for its members, and has the same closing lines. So the transcript of the
-/// bytes of a schedule that comes to its end is what the expansion of its lines writes without members.
-pub fn members_can_be_written_out()
-    ensures shown { (members : ℕ) (ls : List Line) (answers : List (Option Request)) → IsExpanded members ls answers }
-    ensures world { (members : ℕ) (ls : List Line) (answers : List (Option Request)) → LeavesItsWorld members ls answers }
-    ensures closing { (members : ℕ) (ls : List Line) (answers : List (Option Request)) → ClosesAlike members ls answers }
-    ensures written { (members : ℕ) (schedule : List ℕ) (answers : List (Option Request)) → IsWrittenOut members schedule answers }
-    ensures none { (members : ℕ) (ls : List Line) (answers : List (Option Request)) → SpeaksOfNone members ls answers }
-{}
-
-/// What lines leave, for every number of members and every list of answers, is what a list of happenings leaves; so is what
-/// the bytes of a schedule leave, also where they are at fault or a line ends the run. So what holds of every run holds of
-/// every schedule with members.
-pub fn schedules_are_runs()
-    ensures lines { (members : ℕ) (ls : List Line) (answers : List (Option Request)) → IsOfRun (played_all members answers empty_world ls).world }
-    ensures bytes { (members : ℕ) (schedule : List ℕ) (answers : List (Option Request)) → IsOfRun (transcript_with members schedule answers).world }
-{}
 
 /// A member drives a branch, which commits. One of its answers is refused, and stands in the expansion all the same. The
 /// worlds differ in the members alone.

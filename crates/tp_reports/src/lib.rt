@@ -5,8 +5,7 @@
 
 ghost use Rattle.std.specs.Prelude.{List};
 ghost use Rattle.tp_model.specs.Happenings.{Happening, run};
-ghost use Rattle.tp_model.specs.Promises.{ReportFree, Reports};
-ghost use Rattle.tp_reports.specs.Reports.{ClearIsCommitted, ClearBelow, ReportFreeCommits, ReportFreeCloses, DoneBelow, BranchFate};
+ghost use Rattle.tp_reports.specs.Reports.{ClearIsCommitted, ClearBelow, BranchFate};
 
 // Promise 16.35: A node whose user was told that a commitment is complete with no report was told
 //   commit
@@ -22,26 +21,6 @@ pub fn a_clear_completion_is_a_commit()
 /// report itself.
 pub fn a_clear_completion_answers_for_its_branches()
     ensures { (es : List Happening) → ClearBelow (run es) }
-{}
-
-/// In every run, a commit completion with no report at the root means that every node that did not leave was told commit.
-pub fn a_clear_root_has_committed_below()
-    ensures { (es : List Happening) → ReportFree (run es) }
-{}
-
-/// In every run, in a tree whose root's user was told that the commitment is complete with no report, every node that did not
-/// leave logged Commit and was complete with no report itself, and the tree's closing line says that all agree on commitment.
-pub fn a_report_free_tree_has_committed()
-    ensures nodes { (es : List Happening) → ReportFreeCommits (run es) }
-    ensures line { (es : List Happening) → ReportFreeCloses (run es) }
-{}
-
-/// In every run, while a node's user was not told that its commitment is complete, a Done with no report that one of its
-/// branches sent means that every node at and below that branch that did not leave was told commit, logged it, and was
-/// complete with no report.
-pub fn a_done_with_no_report_speaks_for_its_branch()
-    ensures told { (es : List Happening) → Reports (run es) }
-    ensures nodes { (es : List Happening) → DoneBelow (run es) }
 {}
 
 // Promise 16.40: At a node that took the Begin of a branch the tree is current still, or the node

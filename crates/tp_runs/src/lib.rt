@@ -2,28 +2,16 @@
 //! what a superior takes from its branches. Each is the contract of a function with an empty body.
 #![tactic(auto)]
 
-ghost use Rattle.tp_runs.specs.RolledSeen.{RolledIsSeen};
-ghost use Rattle.std.specs.Prelude.{ℕ, ◌≡◌, List, true, false};
+ghost use Rattle.std.specs.Prelude.{◌≡◌, List, true, false};
 ghost use Rattle.tp_names.specs.declared.identifiers.Aaid.{Aaid};
 ghost use Rattle.tp_names.specs.declared.identifiers.BranchId.{BranchId};
-ghost use Rattle.tp_records.specs.declared.body.Event.{Event as Given};
-ghost use Rattle.tp_model.specs.NodeRun.{Opening};
-ghost use Rattle.tp_model.specs.Lanes.{IsOwnHistory};
 ghost use Rattle.tp_model.specs.Happenings.{Happening, run};
-ghost use Rattle.tp_model.specs.Promises.{AllLegal, PrefixTaken, WhatUsersSee, IsOf, IsBranchOf, is_of_tree, has_logged};
+ghost use Rattle.tp_model.specs.Promises.{IsOf, IsBranchOf, is_of_tree, has_logged};
 ghost use Rattle.tp_model.specs.World.{Node};
 ghost use Rattle.tp_model.specs.Outcomes.{decided, rolled, has_left};
 ghost use Rattle.tp_histories.specs.Worlds.{IsGood};
-ghost use Rattle.tp_histories.specs.Members.{IsUnique};
-ghost use Rattle.tp_runs.specs.Hanging.{HangsTogether};
 ghost use Rattle.tp_runs.specs.Heeded.{HeedsBranches};
 ghost use Rattle.tp_runs.specs.Framed.{GoesOut};
-
-/// In every legal history of a node whose log was empty at first, that the node rolled in a tree is seen from what is current before
-/// and after each entry: it rolls after it, or was active or ready, does not go on, and did not leave. No event is looked at.
-pub fn rolling_is_seen()
-    ensures { RolledIsSeen }
-{}
 
 // Promise 16.1: Every history is one that a node can have, every frame was sent by the history of
 //   the node that it is from, and every record that was taken is such a frame
@@ -33,35 +21,12 @@ pub fn world_laws()
     ensures { (es : List Happening) → IsGood (run es).nodes (run es).frames }
 {}
 
-/// In every run, what one end took with a pair of marks, with what it answered out of phase, is a prefix of what the other
-/// end sent with it.
-pub fn prefix_taken()
-    ensures { (es : List Happening) → PrefixTaken (run es) }
-{}
-
 // Promise 16.2: What a node said goes out, unless its site stopped: each record that it sent is a
 //   frame to the address that the record was sent to
 /// In every run, what a node said goes out, unless its site stopped: each record that was sent by a history without a stop is
 /// a frame, from the node's address to the one that the record was sent to.
 pub fn what_is_said_goes_out()
     ensures { (es : List Happening) → GoesOut (run es) }
-{}
-
-/// In every run, a node takes the Begin of a tree at most once and never that of a tree of its own, and the node that drew
-/// a tree's identifier was declared no later than each node that knows it.
-pub fn trees_are_entered_once()
-    ensures { (es : List Happening) → IsUnique (run es).nodes }
-{}
-
-/// In every run, each node of a tree but its root took its Begin from a node of the tree: it is a branch of it.
-pub fn trees_hang_together()
-    ensures { (es : List Happening) → HangsTogether (run es) }
-{}
-
-/// In every run, a user is told commit only where Commit is logged, is told rollback only where the node rolled, and no
-/// node both logs Commit and rolls in one tree.
-pub fn users_see()
-    ensures { (es : List Happening) → WhatUsersSee (run es) }
 {}
 
 // Promise 16.22: Commit at a branch implies Commit at its superior
@@ -92,16 +57,4 @@ pub fn branches_are_heeded()
 /// In every run, a node that left a tree has logged nothing of it: no vote, decision, order, damage or end.
 pub fn leaving_is_silent()
     ensures { (es : List Happening) (t : Aaid) (x : Node) → IsOf (run es) t x → has_left x.origin t x.history ≡ true → has_logged (is_of_tree t) x ≡ false }
-{}
-
-/// In every run, every node's history is one that grew from an empty log by events that were accepted.
-pub fn all_legal()
-    ensures { (es : List Happening) → AllLegal (run es) }
-{}
-
-/// Of the events that a site is given, dealt to any number of workers: a worker that has its events alone writes what it
-/// writes in a run of all, and forces the same records in the same order. So what a node answers depends on its own history
-/// alone.
-pub fn own_history()
-    ensures { (o : Opening) (es : List Given) (i w : ℕ) → IsOwnHistory o es i w }
 {}

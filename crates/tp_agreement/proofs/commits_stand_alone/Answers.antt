@@ -1,5 +1,0 @@
-use Rattle.tp_agreement.proofs.Agreed.{commits_alone}
-use Rattle.tp_agreement.proofs.commits_stand_alone.Goals as goal
-
-pub returns : goal.returns
-returns c = commits_alone

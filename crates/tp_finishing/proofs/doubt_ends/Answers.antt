@@ -1,5 +1,0 @@
-use Rattle.tp_finishing.proofs.Doubts.{doubt_ends as proved}
-use Rattle.tp_finishing.proofs.doubt_ends.Goals as goal
-
-pub returns : goal.returns
-returns c = proved

@@ -1,5 +1,0 @@
-use Rattle.tp_runs.proofs.Breaks.{associations}
-use Rattle.tp_runs.proofs.prefix_taken.Goals as goal
-
-pub returns : goal.returns
-returns c = associations

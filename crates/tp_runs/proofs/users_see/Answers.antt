@@ -1,5 +1,0 @@
-use Rattle.tp_runs.proofs.Users.{users_see}
-use Rattle.tp_runs.proofs.users_see.Goals as goal
-
-pub returns : goal.returns
-returns c = users_see
