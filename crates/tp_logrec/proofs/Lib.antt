@@ -15,3 +15,4 @@ pub mod LifeOrders
 pub mod LivesInOrder
 pub mod BriefOrders
 pub mod OrderChecks
+pub mod BegunLives
