@@ -1,6 +1,5 @@
 pub mod Sames
 pub mod Frees
-pub mod Removals
 pub mod Stands
 pub mod Scans
 pub mod RecordScans

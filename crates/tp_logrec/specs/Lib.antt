@@ -5,7 +5,6 @@ pub mod LogText
 pub mod Order
 pub mod Owners
 pub mod OrderCheck
-pub mod Places
 pub mod Lives
 pub mod Kinds
 pub mod Decoding
