@@ -1,7 +1,6 @@
 pub mod Appends
 pub mod AsLogs
 pub mod Behind
-pub mod BegunLives
 pub mod Appending
 pub mod Briefs
 pub mod Compacting

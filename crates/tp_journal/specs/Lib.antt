@@ -12,5 +12,3 @@ pub mod Keeping
 pub mod Settling
 pub mod Disorder
 pub mod Journals
-pub mod Shortening
-pub mod Kinds

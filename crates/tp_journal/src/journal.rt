@@ -17,11 +17,10 @@ ghost use Rattle.tp_journal.specs.Disorder.{IsFirstOutOfOrder};
 use crate::lengths::text_len;
 use crate::log::{Log, MOST_BYTES};
 use crate::records::{Records, generation, write_piece};
-use crate::shortening::brief;
 use crate::{CompactFault, ForceFault, Keeper, Receipt, StartFault, disorder, tape};
 use std::alloc::Global;
 use std::marker::Model;
-use tp_logrec::LogRec;
+use tp_logrec::{LogRec, brief};
 use tp_names::{NoMemory, Octets};
 use tp_outside::{Disk, Failed};
 

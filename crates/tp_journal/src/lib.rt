@@ -3,7 +3,6 @@
 //! `Gates` keeps bodies of any bytes; the records of a site stand above it.
 #![tactic(auto)]
 
-mod copies;
 mod disorder;
 mod faults;
 mod gates;
@@ -12,14 +11,12 @@ mod journal;
 mod keeper;
 mod laws;
 mod lengths;
-mod lives;
 mod log;
 mod opening;
 mod read;
 mod receipts;
 mod records;
 mod shelf;
-mod shortening;
 mod tape;
 
 pub use disorder::first_out_of_order;

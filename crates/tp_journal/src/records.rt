@@ -5,7 +5,6 @@ ghost use Rattle.tp_journal.specs.Records.{HasText, ReadsText, version_of, text,
 ghost use Rattle.tp_journal.specs.Log.{IsBody, counted, blocks, place_behind};
 ghost use Rattle.tp_journal.specs.Stops.{body_piece};
 
-use crate::copies::push_copy;
 use crate::lengths::text_len;
 use crate::shelf::Shelf;
 use std::alloc::{AllocError, Global};
@@ -274,9 +273,10 @@ impl Shelf for Records {
         let alloc = *self.recs.allocator();
         make_room(&mut self.places)?;
         make_room(&mut self.recs)?;
-        let Ok(()) = push_copy(alloc, &mut self.recs, rec) else {
+        let Ok(copy) = rec.copy(alloc) else {
             return Err(AllocError);
         };
+        self.recs.push_reserved(copy);
         self.places.push_reserved(place);
         Ok(())
     }

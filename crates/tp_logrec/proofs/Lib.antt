@@ -1,6 +1,5 @@
 pub mod Sames
 pub mod Frees
-pub mod Removals
 pub mod Stands
 pub mod Scans
 pub mod RecordScans
@@ -15,3 +14,4 @@ pub mod LifeOrders
 pub mod LivesInOrder
 pub mod BriefOrders
 pub mod OrderChecks
+pub mod BegunLives

@@ -8,7 +8,7 @@ use Rattle.tp_names.specs.declared.outcome.Outcome.{Outcome}
 use Rattle.tp_names.proofs.Sames.{both}
 use Rattle.tp_logrec.specs.declared.record.LogRec.{LogRec}
 use Rattle.tp_logrec.specs.Order.{Owner, owner, owner_of, is_owner, is_end, is_ready, is_heuristic, is_as_ready, is_bound, holds, Before, before, may_follow, Life, with_record, without, lives, records_of, last, last_from, ready_from, boots, greatest, is_begun, boot_by, last_boot_from, bound, is_free, follows, follow_from}
-use Rattle.tp_logrec.specs.Standing.{greatest_by, greatest_after, is_above}
+use Rattle.tp_logrec.specs.OrderCheck.{greatest_by, greatest_after, is_above}
 use Rattle.tp_logrec.proofs.Sames.{owner_same, owner_self}
 use Rattle.tp_logrec.proofs.Stands.{ready_in, last_all, ready_all, last_or-more, above_greatest, greatest_after_is, boot_after_is, lives_after_is}
 use Rattle.tp_logrec.proofs.Briefs.{only, begun_last, last_only_is, life, Absent, AreLives, lives_all, after_own}

@@ -4,7 +4,7 @@ use Rattle.std.specs.Prelude.{◌&&◌, ◌==◌, not, cond}
 use Rattle.std.specs.Cmp.{unsigned_Decides}
 use Rattle.tp_logrec.specs.declared.record.LogRec.{LogRec}
 use Rattle.tp_logrec.specs.Order.{Owner, owner, owner_of, is_owner, is_end, is_bound, others, bound, bound_by, bound_after, is_free, boots, last_from, last_by, ready_from, ready_by, last_boot_from, boot_by, is_begun, Before, before, may_follow, follows}
-use Rattle.tp_logrec.specs.Standing.{is_above, greatest_after}
+use Rattle.tp_logrec.specs.OrderCheck.{is_above, greatest_after}
 use Rattle.tp_logrec.specs.OrderCheck.{Recent, OrderCheck, recent, binding, last_in, ready_in, recent_with, recent_by, recent_after, bound_at, binding_after, is_none, IsCheckOf, IsSame, IsWith, before_by, follows_by}
 use Rattle.tp_logrec.proofs.Sames.{owner_same}
 use Rattle.tp_logrec.proofs.Stands.{above_greatest, greatest_after_is, boot_after_is, bound_after_is, begun_after_is}

@@ -4,7 +4,7 @@ use Rattle.std.specs.Prelude.{◌&&◌, nat_lt, max}
 use Rattle.std.proofs.lemmas.Bool.Decides.{nat_tests}
 use Rattle.tp_logrec.specs.declared.record.LogRec.{LogRec}
 use Rattle.tp_logrec.specs.Order.{Owner, owner, is_owner, is_ready, Life, with_record, without, lives_after, lives_from, lives, records_of, last_or, last, those, bound_after, bound_from, boots, all_below, greatest, is_begun, boot_by, last_boot_from, last_by, last_from, ready_by, ready_from}
-use Rattle.tp_logrec.specs.Standing.{Standing, standing_of, greatest_by, greatest_after, taken, is_above}
+use Rattle.tp_logrec.specs.OrderCheck.{greatest_by, greatest_after, is_above}
 use Rattle.tp_logrec.proofs.Sames.{owner_same}
 
 -- ---- boots
@@ -196,8 +196,3 @@ bound_after_is os (q ∷ qs) r = bound_after_is (bound_after os q) qs r
 pub begun_after_is : (rs : List LogRec) (r : LogRec) → is_begun (rs ++ r ∷ []) ≡ true
 begun_after_is [] r = refl
 begun_after_is (q ∷ qs) r = refl
-
-pub standing_grows : (rs : List LogRec) (r : LogRec) → standing_of (rs ++ r ∷ []) ≡ taken (standing_of rs) r
-standing_grows rs r =
-    ap (λ x. let s : Standing = record { greatest = x; lives = lives (rs ++ r ∷ []) } in s) (greatest_after_is rs r)
-    ∙ ap (λ x. let s : Standing = record { greatest = greatest_after (greatest (boots rs)) r; lives = x } in s) (lives_after_is [] rs r)

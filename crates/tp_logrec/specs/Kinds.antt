@@ -1,7 +1,7 @@
 -- The records of which a life has one.
 use Rattle.std.specs.Prelude.{Bool}
 use Rattle.tp_logrec.specs.declared.record.LogRec.{LogRec}
-use Rattle.tp_logrec.specs.declared.standing.Kind.{Kind}
+use Rattle.tp_logrec.specs.declared.summary.Kind.{Kind}
 use Rattle.tp_logrec.specs.Order.{is_ready, is_heuristic, is_commit}
 
 abbrev pub is_kind : Kind → LogRec → Bool

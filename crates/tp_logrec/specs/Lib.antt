@@ -4,9 +4,8 @@ pub mod RecordScanning
 pub mod LogText
 pub mod Order
 pub mod Owners
-pub mod Standing
 pub mod OrderCheck
-pub mod Places
+pub mod Lives
 pub mod Kinds
 pub mod Decoding
 pub mod Seen

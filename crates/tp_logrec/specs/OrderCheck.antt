@@ -1,10 +1,28 @@
 -- What a check of the order keeps of the records that it has taken: by key what the rules ask of it, and by node the keys
 -- that bind it. A question reads one key and one node of this.
-use Rattle.std.specs.Prelude.{ℕ, nat_eq, ◌≡◌, ◌==◌, Bool, true, false, Option, Some, None, List, [], ◌∷◌}
+use Rattle.std.specs.Prelude.{ℕ, max, nat_lt, nat_eq, ◌≡◌, ◌==◌, Bool, true, false, Option, Some, None, List, [], ◌∷◌}
 use Rattle.std.specs.Map.{lookup}
 use Rattle.tp_logrec.specs.declared.record.LogRec.{LogRec}
 use Rattle.tp_logrec.specs.Order.{Owner, owner, owner_of, is_owner, is_ready, is_end, boots, greatest, is_begun, boot_by, last_boot_from, last_from, ready_from, bound, bound_by, Before, may_follow}
-use Rattle.tp_logrec.specs.Standing.{greatest_after, is_above}
+
+-- ---- the greatest boot number
+
+abbrev pub greatest_by : Option ℕ → ℕ → ℕ
+greatest_by None n = n
+greatest_by (Some m) n = max m n
+
+abbrev pub greatest_after : Option ℕ → LogRec → Option ℕ
+greatest_after g (LogRec.Boot n) = Some (greatest_by g n)
+greatest_after g (LogRec.Ready n k a cs) = g
+greatest_after g (LogRec.Heuristic n k o) = g
+greatest_after g (LogRec.Commit n k a cs) = g
+greatest_after g (LogRec.Damage n k a o r cs) = g
+greatest_after g (LogRec.End n k o) = g
+
+-- the number is above the greatest
+abbrev pub is_above : Option ℕ → ℕ → Bool
+is_above None n = true
+is_above (Some m) n = nat_lt m n
 
 -- ---- one key that is not at its end
 

@@ -9,7 +9,7 @@ mod bindings;
 mod decode;
 mod encode;
 pub mod laws;
-mod life;
+mod lives;
 mod order;
 mod order_check;
 mod owner;
@@ -18,7 +18,6 @@ mod recent_keys;
 mod record;
 mod rules;
 mod same;
-mod standing;
 mod summary;
 
 pub use decode::decode_log;

@@ -2,13 +2,12 @@
 ghost use Rattle.std.specs.Prelude.{◌≡◌, ◌++◌, ◌∷◌, [], List, Some, OnErr, OnOk};
 ghost use Rattle.tp_logrec.specs.declared.record.LogRec.{LogRec as TheRecord};
 ghost use Rattle.tp_logrec.specs.Order.{follows, owner, owner_of};
-ghost use Rattle.tp_logrec.specs.OrderCheck.{IsCheckOf, IsWith, IsSame, follows_by, before_by};
+ghost use Rattle.tp_logrec.specs.OrderCheck.{IsCheckOf, IsWith, IsSame, follows_by, before_by, greatest_by, is_above};
 ghost use Rattle.tp_logrec.specs.Seen.{before_of};
 
 use crate::bindings::Bindings;
 use crate::recent_keys::RecentKeys;
 use crate::rules::Seen;
-use crate::standing::{greater, is_above};
 use crate::{LogRec, Owner};
 use std::alloc::Global;
 use std::marker::Model;
@@ -125,5 +124,25 @@ impl OrderCheck {
         self.nodes.set(owner.node, binding);
         self.begun = true;
         Ok(())
+    }
+}
+
+// The number is above the greatest, if there is one.
+fn is_above(greatest: Option<u64>, number: u64) -> bool
+    ensures { result ≡ is_above greatest number }
+{
+    match greatest {
+        None => true,
+        Some(greatest) => greatest < number,
+    }
+}
+
+/// The greater of two boot numbers, where the first may be missing.
+pub(crate) fn greater(greatest: Option<u64>, boot: u64) -> u64
+    ensures { result ≡ greatest_by greatest boot }
+{
+    match greatest {
+        None => boot,
+        Some(greatest) => greatest.max(boot),
     }
 }

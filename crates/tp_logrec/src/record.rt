@@ -230,14 +230,3 @@ fn copy_end(node: u16, key: &NodeKey, outcome: Outcome) -> Result<LogRec, NoMemo
         outcome,
     })
 }
-
-/// Puts a copy of the record at the end; without memory the list stays as it was.
-pub(crate) fn push_copy(alloc: Global, list: &mut Vec<LogRec>, rec: &LogRec) -> Result<(), NoMemory>
-    ensures ok { OnOk result (list.new.items ≡ list.old.items ++ rec.now ∷ []) }
-    ensures err { OnErr result (list.new.items ≡ list.old.items) }
-{
-    list.reserve(1)?;
-    let copy = rec.copy(alloc)?;
-    list.push_reserved(copy);
-    Ok(())
-}

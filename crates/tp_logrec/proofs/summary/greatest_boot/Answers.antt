@@ -1,9 +1,9 @@
 use Rattle.std.proofs.Common.{take, [], ◌∷◌, ◌++◌, arith, ap, sym, ◌∙◌}
 use Rattle.std.proofs.lemmas.List.{take_more}
 use Rattle.tp_logrec.specs.Order.{boots, greatest}
-use Rattle.tp_logrec.specs.Standing.{greatest_after}
+use Rattle.tp_logrec.specs.OrderCheck.{greatest_after}
 use Rattle.tp_logrec.proofs.Stands.{greatest_after_is}
-use Rattle.tp_journal.proofs.shortening.greatest_boot.Goals as goal
+use Rattle.tp_logrec.proofs.summary.greatest_boot.Goals as goal
 
 pub loop-rec-preserved : goal.loop-rec-preserved
 loop-rec-preserved c =

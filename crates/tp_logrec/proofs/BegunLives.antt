@@ -7,7 +7,7 @@ use Rattle.tp_logrec.specs.declared.record.LogRec.{LogRec}
 use Rattle.tp_logrec.specs.declared.owner.Owner.{Owner}
 use Rattle.tp_logrec.specs.Order.{owner_of, is_owner, is_end, Life, with_record, without, lives_by, lives_after, lives_from, lives, brief_life, brief_lives}
 use Rattle.tp_logrec.specs.Owners.{owner_same, owner_self, owner_either}
-use Rattle.tp_journal.specs.Shortening.{Begun, begun, with_more, begun_by, begun_after, begun_from, life_of, life_at, lives_begun}
+use Rattle.tp_logrec.specs.Lives.{Begun, begun, with_more, begun_by, begun_after, begun_from, life_of, life_at, lives_begun}
 
 -- what is kept of keys tells the lives
 pub alike : (f g : Owner → Option Begun) (i : ℕ) (rs : List LogRec) → ((o : Owner) → f o ≡ g o) → lives_begun f i rs ≡ lives_begun g i rs

@@ -2,13 +2,13 @@
 ghost use Rattle.std.specs.Prelude.{◌≡◌, ◌++◌, cond, Some, None, IfOk, OnOk};
 ghost use Rattle.tp_logrec.specs.declared.owner.Owner.{Owner as TheOwner};
 ghost use Rattle.tp_logrec.specs.Order.{is_owner, brief_lives};
-ghost use Rattle.tp_journal.specs.Shortening.{begun, begun_after, gone_on, with_more, life_at};
+ghost use Rattle.tp_logrec.specs.Lives.{begun, begun_after, gone_on, with_more, life_at};
 
-use crate::shortening::add_life;
+use crate::summary::add_life;
+use crate::{LogRec, Owner};
 use std::alloc::Global;
 use std::collections::HashMap;
 use std::marker::Model;
-use tp_logrec::{LogRec, Owner};
 use tp_names::NoMemory;
 
 /// A key that is not at its end: the index of its first record since its last End, and copies of its records since then.
@@ -19,9 +19,9 @@ struct Begun {
 }
 
 impl Model for Begun {
-    ghost use Rattle.tp_journal.specs.Shortening as shortening;
+    ghost use Rattle.tp_logrec.specs.Lives as lives;
 
-    ghost Value = { shortening.Begun };
+    ghost Value = { lives.Begun };
 
     ghost view = { λ b. record { first = b.first; records = b.records.items } };
 }
@@ -52,9 +52,9 @@ pub(crate) struct Lives {
 impl Model for Lives {
     ghost use Rattle.std.specs.Prelude.{List};
     ghost use Rattle.tp_logrec.specs.declared.owner.Owner as owners;
-    ghost use Rattle.tp_journal.specs.Shortening as shortening;
+    ghost use Rattle.tp_logrec.specs.Lives as lives;
 
-    ghost Value = { List (owners.Owner × shortening.Begun) };
+    ghost Value = { List (owners.Owner × lives.Begun) };
 
     ghost view = { λ l. l.keys.entries };
 }
