@@ -2,10 +2,11 @@
 use Rattle.std.proofs.Common.{◌≡◌, ◌==◌, ◌%◌, ◌<◌, ◌+◌, ℕ, Bool, true, false, Option, Some, None, List, [], ◌∷◌, ◌++◌, length, map, take, refl, ap, sym, subst, ◌∙◌, arith, slice_index_or}
 use Rattle.std.proofs.lemmas.Bool.Decides.{nat_tests}
 use Rattle.std.proofs.Math.Seq.{take-length}
+use Rattle.std.proofs.Math.Nat.{mod-one}
 use Rattle.tp_logrec.specs.declared.record.LogRec.{LogRec}
 use Rattle.tp_logrec.specs.declared.record.LogVersion.{LogVersion}
 use Rattle.tp_logrec.specs.declared.owner.Owner.{Owner}
-use Rattle.tp_logrec.specs.Order.{owner_of}
+use Rattle.tp_logrec.specs.Order.{owner_of, boots, last_number, all_follow}
 use Rattle.tp_model.specs.Events.{started}
 use Rattle.tp_model.specs.NodeRun.{Opening, boot_of, is_record_at, records_at}
 use Rattle.tp_model.specs.Lanes.{records_in}
@@ -13,7 +14,7 @@ use Rattle.tp_journal.specs.Keeping.{Standing}
 use Rattle.tp_journal.specs.Records.{version_of}
 use Rattle.tp_journal.specs.declared.receipts.Receipt.{Receipt}
 use Rattle.tp_site.specs.Nodes.{Nodes, AreFrom}
-use Rattle.tp_site.specs.Site.{Site, told_records}
+use Rattle.tp_site.specs.Site.{Site, IsFound, told_records}
 use Rattle.tp_site.specs.Events.{kept_records, IsAt}
 use Rattle.tp_site.specs.Resume.{is_in_lane, is_record_in, IsLaneOf, IsResumed, IsStartedOn}
 use Rattle.tp_site.proofs.Starting.{told_more}
@@ -112,6 +113,19 @@ resumed standing old name boot i w v is = record {
       ∙ ap (λ (x : LogVersion). started (record { boot = boot; version = x; records = records_at n (told_records (standing old)) })) is.version;
   keeper = refl;
   shut = refl;
+}
+
+-- ---- a lane that is alone
+
+pub alone : (s : Standing) (name : List ℕ) (last : ℕ) (v : Nodes) → all_follow (told_records s) ≡ true → last ≡ last_number (boots (told_records s)) → IsLaneOf s name (last + 1) 0 1 v
+    → IsFound s name v
+alone s name last v order is lane = record {
+  order = order;
+  site = lane.site;
+  boot = lane.boot ∙ ap (λ (k : ℕ). k + 1) is ∙ omega arith;
+  version = lane.version;
+  from = λ n. lane.from n ∙ ap (λ (l : List LogRec). started (record { boot = v.boot; version = v.version; records = l }))
+      (at_of_lane 0 1 n (told_records s) (ap (λ (k : ℕ). k == 0) (mod-one n)));
 }
 
 -- ---- a run of no events

@@ -51,9 +51,6 @@ from_shaped : (rs : List LogRec) (v : Nodes) → AreShaped v.version rs → AreF
 from_shaped rs v h from n =
     subst (IsShapedNode v.version) (sym (from n)) (node_started (record { boot = v.boot; version = v.version; records = records_at n rs }) (shaped_at v.version n rs h))
 
-pub found_shaped : (s : Standing) (rs : List LogRec) (v : Nodes) → All (λ r. HasText s.wide r.rec) s.told → rs ≡ told_records s → v.version ≡ version_of s.wide → AreFrom rs v → AreShapedNodes v
-found_shaped s rs v h told is from = from_shaped rs v (subst (λ (l : List LogRec). AreShaped v.version l) (sym told) (subst (λ (x : LogVersion). AreShaped x (told_records s)) (sym is) (told_shaped s h))) from
-
 -- those of a lane
 lane_shaped : (ver : LogVersion) (i w : ℕ) (rs : List LogRec) → AreShaped ver rs → AreShaped ver (records_in i w rs)
 lane_shaped ver i w [] h = tt

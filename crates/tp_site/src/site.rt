@@ -12,6 +12,7 @@ ghost use Rattle.tp_model.specs.History.{state};
 ghost use Rattle.tp_model.specs.Parts.{Out};
 ghost use Rattle.tp_logrec.specs.declared.record.LogRec.{LogRec as TheRecord};
 ghost use Rattle.tp_model.specs.NodeRun.{boot_of};
+ghost use Rattle.tp_journal.specs.Disorder.{IsFirstOutOfOrder};
 ghost use Rattle.tp_journal.specs.Records.{version_of, HasText};
 ghost use Rattle.tp_node.specs.NodeEvent.{event_of};
 ghost use Rattle.tp_draft.specs.Answers.{IsPlain};
@@ -29,11 +30,12 @@ ghost use Rattle.tp_encodable.specs.Sizes.{AreShort, BringsFew};
 use crate::faults::{LogFault, SiteFault, StartFault};
 use crate::nodes::Nodes;
 use crate::prepared::Prepared;
+use resume::lane_of;
 use std::alloc::Global;
 use std::marker::Model;
 use tp_draft::Draft;
-use tp_journal::{ForceFault, Keeper, first_out_of_order};
-use tp_logrec::{LogRec, LogVersion};
+use tp_journal::{ForceFault, Keeper};
+use tp_logrec::{LogRec, LogVersion, OrderCheck};
 use tp_model::{Phase, Refusal, TxFault};
 use tp_names::{NoMemory, SiteName};
 use tp_node::{NodeEvent, NodeState, NodeTree};
@@ -460,54 +462,49 @@ fn version_of<K: Keeper>(keeper: &K) -> LogVersion
     }
 }
 
-// Copies of the records that a keeper tells.
-fn records_of<K: Keeper>(alloc: Global, keeper: &K) -> Result<Vec<LogRec>, NoMemory>
-    ensures { IfOk result (λ records. records.items ≡ told_records (K.standing keeper.now)) }
+// The index of the first record of a keeper that may not follow those before it, where there is one.
+fn first_out_of_order<K: Keeper>(alloc: Global, keeper: &K) -> Result<Option<usize>, NoMemory>
+    ensures { IfOk result (IsFirstOutOfOrder (told_records (K.standing keeper.now))) }
 {
-    let mut records = Vec::new(alloc);
+    let mut check = OrderCheck::new(alloc);
     for i in 0..keeper.count() {
         let rec = keeper.rec(i);
-        records.push(rec.copy(alloc)?)?;
+        if !check.follows(rec) {
+            return Ok(Some(i));
+        }
+        check.take(alloc, rec)?;
     }
-    Ok(records)
+    Ok(None)
 }
 
-// The last boot number among the records; 0 where there is none.
-fn last_boot(records: &[LogRec]) -> u64
-    ensures { result ≡ last_number (boots records.now) }
+// The last boot number among the records of a keeper; 0 where there is none.
+fn last_boot<K: Keeper>(keeper: &K) -> u64
+    ensures { result ≡ last_number (boots (told_records (K.standing keeper.now))) }
 {
     let mut last = 0;
-    for rec in records {
-        if let LogRec::Boot { boot } = rec {
+    for i in 0..keeper.count() {
+        if let LogRec::Boot { boot } = keeper.rec(i) {
             last = *boot;
         }
     }
     last
 }
 
-// What the records of a log tell of the nodes of a site, for its next boot.
+// What the records of a log tell of the nodes of a site, for its next boot: those of a lane that is alone.
 fn found<K: Keeper>(alloc: Global, keeper: &K, name: SiteName) -> Result<Nodes, LogFault>
     ensures ok { IfOk result (IsFound (K.standing keeper.now) name) }
     ensures shaped { IfOk result AreShapedNodes }
     ensures err { IfErr result (IsUnfound (K.standing keeper.now) name) }
 {
-    keeper.texts();
-    let records = records_of(alloc, keeper)?;
-    if let Some(i) = first_out_of_order(alloc, records.as_slice())? {
+    if let Some(i) = first_out_of_order(alloc, keeper)? {
         return Err(LogFault::Foreign {
             at: keeper.place(i),
         });
     }
-    let last = last_boot(records.as_slice());
+    let last = last_boot(keeper);
     if last == u64::MAX {
         return Err(LogFault::BootsSpent);
     }
-    let nodes = Nodes::from_records(
-        alloc,
-        name,
-        last + 1,
-        version_of(keeper),
-        records.as_slice(),
-    )?;
+    let nodes = lane_of(alloc, keeper, name, last + 1, 0, 1)?;
     Ok(nodes)
 }

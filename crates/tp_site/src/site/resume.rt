@@ -49,8 +49,8 @@ fn recover(
     }
 }
 
-// What the records of a log tell of the nodes of that lane.
-fn lane_of<K: Keeper>(
+/// What the records of a log tell of the nodes of that lane.
+pub(crate) fn lane_of<K: Keeper>(
     alloc: Global,
     keeper: &K,
     name: SiteName,

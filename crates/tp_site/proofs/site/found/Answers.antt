@@ -1,8 +1,10 @@
-use Rattle.std.proofs.Common.{◌∙◌}
-use Rattle.tp_site.proofs.Shaped.{found_shaped}
+use Rattle.tp_site.specs.Site.{told_records}
+use Rattle.tp_site.proofs.Lanes.{alone}
+use Rattle.tp_site.proofs.Starting.{in_order}
 use Rattle.tp_site.proofs.site.found.Goals as goal
 
-pub returns-clause-shaped : goal.returns-clause-shaped
-returns-clause-shaped g c =
-    let found = c.in_ok-nodes.ensures in
-    found_shaped (g.K.Keeper.standing c.args.keeper.now) c.as_slice-3.result.now c.in_ok-nodes.nodes c.texts.ensures (c.as_slice-3.ensures.value ∙ c.in_ok-records.ensures) (found.version ∙ c.version_of.ensures) found.nodes
+pub returns-clause-ok : goal.returns-clause-ok
+returns-clause-ok g c =
+    let told = g.K.Keeper.standing c.args.keeper.now in
+    alone told c.args.name c.last_boot-last.result c.in_ok-nodes.nodes (in_order (told_records told) c.in_ok-i.field-0 c.in_ok-i.ensures c.in_default.not-Some) c.last_boot-last.ensures
+    c.in_ok-nodes.ensures.lane

@@ -1,8 +1,10 @@
-use Rattle.std.proofs.Common.{◌≡◌, drop}
+use Rattle.std.proofs.Common.{◌≡◌, drop, map}
 use Rattle.tp_logrec.specs.Order.{boots}
 use Rattle.tp_site.proofs.Starting.{last_after}
 use Rattle.tp_site.proofs.site.last_boot.Given as goal
 
 -- the last of those before
-abbrev pub invariant-loop-rec : goal.invariant-loop-rec
-invariant-loop-rec l = last_after 0 (boots l.records) ≡ last_after l.last (boots (drop l.rec-index l.records))
+abbrev pub invariant-loop-i : goal.invariant-loop-i
+invariant-loop-i g l =
+    last_after 0 (boots (map (λ r. r.rec) (g.K.Keeper.standing l.keeper).told))
+    ≡ last_after l.last (boots (map (λ r. r.rec) (drop l.i (g.K.Keeper.standing l.keeper).told)))
