@@ -267,7 +267,7 @@ class Hostile:
             for name in sorted(it for it in os.listdir(folder) if it.endswith(".frames")):
                 site, path = name.split("-")[-2], os.path.join(folder, name[:-7])
                 command = "tx" if "--tx" in kind and site == "s0" else "node"
-                found.append(([command, "--name", site], wire.frames_in(preload.got(path + ".frames"))[0], preload.got(path + ".log")))
+                found.append(([command, "--name", site], wire.frames_in(preload.got(path + ".frames"))[0], without_zeros(preload.got(path + ".log"))))
         print("%d recordings of %d frames" % (len(found), sum(len(bodies) for _, bodies, _ in found)), flush=True)
         return found
 
@@ -565,6 +565,11 @@ class Hostile:
 
     def say(self, what):
         print("%s: %s" % (what, tools.counted(self.counts)), flush=True)
+
+
+def without_zeros(log):
+    """A log without what a killed batch wrote ahead of it: the second machine writes nothing there, so it does not cut it off either."""
+    return log if log[4:5] == b"\2" else log[: wire.text_at(log, 5, len(log))[1]]
 
 
 def one_frame():
