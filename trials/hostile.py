@@ -107,6 +107,8 @@ class Hostile:
             self.fault(words, given, log, "status %d, %r" % (run.status, run.err[-200:]))
         if words[0] == "show" and (run.status, run.out) != wire.shown(log):
             self.fault(words, given, log, "show writes other records than wire.py reads")
+        elif words[0] == "show" and run.status == 5 and said(run) != "foreign log at %d" % wire.foreign_at(log):
+            self.fault(words, given, log, "show finds the file foreign at another place than wire.py: %s" % said(run))
         if run.status == 5 and run.out or words[0] == "drive" and run.status and (run.out or run.status == 3 and run.disk != log):
             self.fault(words, given, log, "status %d, and %d bytes of output" % (run.status, len(run.out)))
 
@@ -587,6 +589,7 @@ class Mutant:
 
     def __init__(self, draw, words, bodies, rate):
         self.draw, self.site, self.with_calls, self.bodies = draw, words[2], words[0] == "tx", []
+        self.bends = draw.random() < 0.25  # bytes are changed, too: most such streams end early, as bad input
         self.shift, self.sent = {}, {}
         self.names, self.numbers, self.marks, self.keys, self.senders = set(), set(), [], [], []
         for body in bodies:
@@ -647,7 +650,7 @@ class Mutant:
         if x < 0.25:
             self.bodies += [body, body]
             return
-        if x < 0.33:
+        if x < 0.33 and self.bends:
             at = draw.randrange(len(body))
             self.bodies.append(body[:at] + bytes([draw.choice([0, 1, 255, body[at] ^ 1, draw.randrange(256)])]) + body[at + 1:])
             return
