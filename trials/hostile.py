@@ -1,5 +1,5 @@
 """Streams, logs and frames that no honest peer gives: cut short, cut in two, changed in each byte, of each code, at random, at
-each limit.
+each limit; and schedules in which frames overtake one another.
 
 trials/run hostile [--program CMD] [--drive CMD] [--beside CMD] [--short] [--frames N] [--only PART] [--seed N]
 
@@ -23,6 +23,7 @@ import tempfile
 import threading
 
 import bound
+import passing
 import preload
 import stops
 import streams
@@ -252,6 +253,16 @@ class Hostile:
         for words, some in cases.items():
             self.run_all(words.split(), some)
         self.say("codes")
+
+    def schedules(self):
+        """Frames that overtake one another, are lost and come again: each line takes the one that is due."""
+        lines = [passing.schedule(self.draw) for _ in range(300 if self.options.short else 20000)]
+        cases = [(bound.text_of(it), wire.FRESH_STORE) for it in lines]
+        for (given, log), (_, _, out, _) in zip(cases, self.run_all(["replay"], cases)):
+            for it in passing.faults(out.decode())[:3]:
+                self.fault(["replay"], given, log, it)
+        self.counts["schedules"] = len(cases)
+        self.say("schedules")
 
     # Random frames.
 
@@ -723,13 +734,13 @@ def main():
     parser.add_argument("--beside", help="a second machine")
     parser.add_argument("--short", action="store_true")
     parser.add_argument("--frames", type=int, help="random frames")
-    parser.add_argument("--only", choices=["worked", "codes", "random", "limits"])
+    parser.add_argument("--only", choices=["worked", "codes", "schedules", "random", "limits"])
     parser.add_argument("--seed", type=int, default=1)
     options = parser.parse_args()
     tools.set_program(options, workers=True)
     folder = tempfile.mkdtemp(prefix="hostile-")
     trial = Hostile(options, folder)
-    for part in [options.only] if options.only else ["worked", "codes", "random", "limits"]:
+    for part in [options.only] if options.only else ["worked", "codes", "schedules", "random", "limits"]:
         getattr(trial, part)()
     trial.library.end()
     shutil.rmtree(folder)
