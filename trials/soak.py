@@ -36,7 +36,7 @@ from ripsaw import bank, world  # noqa: E402
 
 BANKS = ["ash", "beech", "cedar", "elm", "fir", "larch", "oak", "pine", "yew"]
 RECYCLE, COMPACT = 1500, 40_000  # events of a tpnode, bytes of a log; where no time is lost between transfers
-BUSY_RECYCLE, BUSY_COMPACT = 4000, 80_000
+BUSY_RECYCLE, BUSY_COMPACT = 2000, 40_000
 SAMPLES = 120  # of a run
 JUDGED = 20 * 60  # seconds of a run from which on its memory is judged
 DAY = 86_400
