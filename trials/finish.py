@@ -6,8 +6,8 @@ A schedule has two to six nodes, rounds of transactions, and at random places de
 frames, frames that come again, stops of sites, and stops in a call that changes a log. Then each site stops once, or, in every second
 schedule, each association is lost and users end what is active. From there on `next_line` says what comes next, by the
 states that a transcript shows and nothing else; what it sends is delivered, with the answers. The schedule is played anew with each line. It
-has no fault where no node has a transaction any more, no tree is open, and the lines are no more than is promised for as many branches as
-there are nodes.
+has no fault where no node has a transaction any more, no tree is open, the lines are no more than is promised for as many branches as
+there are nodes, and the closing lines are those of the trees that were begun, and say of each what its logged records do.
 """
 import argparse
 import random
@@ -48,12 +48,38 @@ def next_line(states: typing.Dict[int, typing.Tuple[str, int]], waiting: typing.
     return None
 
 
+def closing_faults(shown: typing.List[str]) -> typing.List[str]:
+    """Closing lines of a transcript that are not what its other lines say."""
+    trees: typing.Dict[str, typing.Dict[int, str]] = {}  # what each node that logged a decision or a commitment is told
+    decided: typing.Dict[str, typing.Set[int]] = {}
+    for line in shown:
+        words = line.split(" ")
+        if words[0] == "send" and words[4:5] == ["data"] and words[6:7] == ["begin"]:
+            trees.setdefault(words[7], {})
+        elif words[0] == "log" and words[2] == "commit":
+            trees.setdefault(words[4], {}).setdefault(int(words[3]), "commit")
+        elif words[0] == "log" and words[2] == "heuristic":
+            trees.setdefault(words[4], {})[int(words[3])] = words[6]
+            decided.setdefault(words[4], set()).add(int(words[3]))
+    closing = {words[1]: " ".join(words[2:]) for words in (line.split(" ") for line in shown) if words[0] == "tree"}
+    faults = ["tree %s has no closing line" % tree for tree in trees if tree not in closing]
+    if [it for it in closing if it in trees] != [it for it in trees if it in closing]:
+        faults.append("the closing lines are out of order")
+    for tree, said in closing.items():
+        told = set(trees.get(tree, {}).values())
+        mixed = "mixed by " + ",".join(map(str, sorted(decided.get(tree, []))))
+        if said.startswith("mixed") and said != mixed or len(told) == 2 and said != mixed or said.startswith("agreed") and told - {said.split(" ")[1]}:
+            faults.append("tree %s %s, where %s" % (tree, said, trees.get(tree)))
+    return faults
+
+
 class Schedule:
     """A schedule that goes on, and is played from its first line each time."""
 
     def __init__(self, command: typing.List[str], folder: str, lines: typing.List[str], above: typing.Dict[int, int]) -> None:
         self.command, self.folder, self.lines, self.above = command, folder, lines, above
         self.sent, self.plays = 0, 0
+        self.shown: typing.List[str] = []
 
     def play(self) -> typing.Tuple[View, typing.List[str]]:
         """What is shown, with the closing lines."""
@@ -62,7 +88,7 @@ class Schedule:
         self.plays += 1
         if run.returncode != 0:
             raise RuntimeError("status %d: %s" % (run.returncode, run.stderr.decode(errors="replace").strip()))
-        shown = run.stdout.decode().splitlines()
+        self.shown = shown = run.stdout.decode().splitlines()
         states, sent = {}, 0
         for line in shown:
             words = line.split(" ")
@@ -121,7 +147,8 @@ def wild(draw: random.Random, above: typing.Dict[int, int], sites: typing.Dict[i
 
 def made(draw: random.Random) -> typing.Tuple[typing.List[str], typing.Dict[int, int], typing.Dict[int, str]]:
     count = draw.randint(2, 6)
-    above = {node: draw.randint(1, node - 1) if node > 1 else 0 for node in range(1, count + 1)}
+    nodes = list(range(1, count + 1)) if draw.random() < 0.5 else draw.sample(range(1, 65536), count)
+    above = {node: draw.choice(nodes[:k]) if k else 0 for k, node in enumerate(nodes)}
     sites = {node: draw.choice("abcd") for node in above}
     lines = honest(draw, above)
     lines = lines[:draw.randint(len(lines) // 2, len(lines))]
@@ -165,7 +192,7 @@ def finish(schedule: Schedule, view: View, sites: typing.Dict[int, str]) -> typi
         faults += ["site %s has a key whose last record is %s" % (site, kind) for kind in last.values() if kind != "end"]
     view, closing = schedule.play()
     faults += ["node %d is %s and keeps %d" % (node, *state) for node, state in view.states.items() if state != ("nil", 0)]
-    faults += [line for line in closing if line.endswith(" open")]
+    faults += [line for line in closing if line.endswith(" open")] + closing_faults(schedule.shown)
     took = len(schedule.lines) - first
     if took > most:
         faults.append("%d lines where %d are promised" % (took, most))

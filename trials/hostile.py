@@ -1,5 +1,5 @@
 """Streams, logs and frames that no honest peer gives: cut short, cut in two, changed in each byte, of each code, at random, at
-each limit.
+each limit; and schedules in which frames overtake one another.
 
 trials/run hostile [--program CMD] [--drive CMD] [--beside CMD] [--short] [--frames N] [--only PART] [--seed N]
 
@@ -23,6 +23,7 @@ import tempfile
 import threading
 
 import bound
+import passing
 import preload
 import stops
 import streams
@@ -107,6 +108,8 @@ class Hostile:
             self.fault(words, given, log, "status %d, %r" % (run.status, run.err[-200:]))
         if words[0] == "show" and (run.status, run.out) != wire.shown(log):
             self.fault(words, given, log, "show writes other records than wire.py reads")
+        elif words[0] == "show" and run.status == 5 and said(run) != "foreign log at %d" % wire.foreign_at(log):
+            self.fault(words, given, log, "show finds the file foreign at another place than wire.py: %s" % said(run))
         if run.status == 5 and run.out or words[0] == "drive" and run.status and (run.out or run.status == 3 and run.disk != log):
             self.fault(words, given, log, "status %d, and %d bytes of output" % (run.status, len(run.out)))
 
@@ -251,6 +254,16 @@ class Hostile:
             self.run_all(words.split(), some)
         self.say("codes")
 
+    def schedules(self):
+        """Frames that overtake one another, are lost and come again: each line takes the one that is due."""
+        lines = [passing.schedule(self.draw) for _ in range(300 if self.options.short else 20000)]
+        cases = [(bound.text_of(it), wire.FRESH_STORE) for it in lines]
+        for (given, log), (_, _, out, _) in zip(cases, self.run_all(["replay"], cases)):
+            for it in passing.faults(out.decode())[:3]:
+                self.fault(["replay"], given, log, it)
+        self.counts["schedules"] = len(cases)
+        self.say("schedules")
+
     # Random frames.
 
     def recordings(self):
@@ -267,7 +280,7 @@ class Hostile:
             for name in sorted(it for it in os.listdir(folder) if it.endswith(".frames")):
                 site, path = name.split("-")[-2], os.path.join(folder, name[:-7])
                 command = "tx" if "--tx" in kind and site == "s0" else "node"
-                found.append(([command, "--name", site], wire.frames_in(preload.got(path + ".frames"))[0], preload.got(path + ".log")))
+                found.append(([command, "--name", site], wire.frames_in(preload.got(path + ".frames"))[0], without_zeros(preload.got(path + ".log"))))
         print("%d recordings of %d frames" % (len(found), sum(len(bodies) for _, bodies, _ in found)), flush=True)
         return found
 
@@ -567,6 +580,11 @@ class Hostile:
         print("%s: %s" % (what, tools.counted(self.counts)), flush=True)
 
 
+def without_zeros(log):
+    """A log without what a killed batch wrote ahead of it: the second machine writes nothing there, so it does not cut it off either."""
+    return log if log[4:5] == b"\2" else log[: wire.text_at(log, 5, len(log))[1]]
+
+
 def one_frame():
     return wire.frame(wire.retry(1))
 
@@ -582,6 +600,7 @@ class Mutant:
 
     def __init__(self, draw, words, bodies, rate):
         self.draw, self.site, self.with_calls, self.bodies = draw, words[2], words[0] == "tx", []
+        self.bends = draw.random() < 0.25  # bytes are changed, too: most such streams end early, as bad input
         self.shift, self.sent = {}, {}
         self.names, self.numbers, self.marks, self.keys, self.senders = set(), set(), [], [], []
         for body in bodies:
@@ -642,7 +661,7 @@ class Mutant:
         if x < 0.25:
             self.bodies += [body, body]
             return
-        if x < 0.33:
+        if x < 0.33 and self.bends:
             at = draw.randrange(len(body))
             self.bodies.append(body[:at] + bytes([draw.choice([0, 1, 255, body[at] ^ 1, draw.randrange(256)])]) + body[at + 1:])
             return
@@ -715,13 +734,13 @@ def main():
     parser.add_argument("--beside", help="a second machine")
     parser.add_argument("--short", action="store_true")
     parser.add_argument("--frames", type=int, help="random frames")
-    parser.add_argument("--only", choices=["worked", "codes", "random", "limits"])
+    parser.add_argument("--only", choices=["worked", "codes", "schedules", "random", "limits"])
     parser.add_argument("--seed", type=int, default=1)
     options = parser.parse_args()
     tools.set_program(options, workers=True)
     folder = tempfile.mkdtemp(prefix="hostile-")
     trial = Hostile(options, folder)
-    for part in [options.only] if options.only else ["worked", "codes", "random", "limits"]:
+    for part in [options.only] if options.only else ["worked", "codes", "schedules", "random", "limits"]:
         getattr(trial, part)()
     trial.library.end()
     shutil.rmtree(folder)

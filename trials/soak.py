@@ -1,6 +1,6 @@
 """An hour of the sites of deploy/, while the memory of each process is sampled.
 
-trials/run soak [--program CMD] [--short | --minutes N] [--only sites | postgres] [--seed N]
+trials/run soak [--program CMD] [--short | --minutes N] [--only sites | postgres] [--seed N] [--samples FILE]
 
 Two runs side by side, each of which judges itself at its end as `./bank` does:
 
@@ -9,7 +9,7 @@ Two runs side by side, each of which judges itself at its end as `./bank` does:
   replaced after some thousand events, once its nodes are idle, and its log is compacted then.
 - `postgres`: `./bank --postgres`, compacted in the same way.
 
-The resident memory of each process, and of those that replaced it, is sampled. No sample after the second sixth of the time may be more than a
+The resident memory of each process, and of those that replaced it, is sampled; FILE gets each sample. No sample after the second sixth of the time may be more than a
 tenth, or a megabyte, above the most of that second sixth; the first is a start. A run of less than twenty minutes tells this, and does not judge it.
 The disk is a file of two gigabytes that is mounted, so root is needed; without it the disk is left out.
 """
@@ -36,7 +36,7 @@ from ripsaw import bank, world  # noqa: E402
 
 BANKS = ["ash", "beech", "cedar", "elm", "fir", "larch", "oak", "pine", "yew"]
 RECYCLE, COMPACT = 1500, 40_000  # events of a tpnode, bytes of a log; where no time is lost between transfers
-BUSY_RECYCLE, BUSY_COMPACT = 10_000, 200_000
+BUSY_RECYCLE, BUSY_COMPACT = 2000, 40_000
 SAMPLES = 120  # of a run
 JUDGED = 20 * 60  # seconds of a run from which on its memory is judged
 DAY = 86_400
@@ -243,14 +243,17 @@ def compiled(folder: pathlib.Path) -> pathlib.Path:
 class Memory:
     """What each process has resident, by what it is."""
 
-    def __init__(self) -> None:
+    def __init__(self, file: typing.Optional[str]) -> None:
         self.begun = time.monotonic()
         self.samples: dict[str, list[tuple[float, int]]] = {}
+        self.file = open(file, "w", encoding="ascii") if file else None
 
     def take(self) -> None:
         now = time.monotonic() - self.begun
         for role, size in sizes(os.getpid()):
             self.samples.setdefault(role, []).append((now, size))
+            if self.file is not None:
+                print("%d s\t%s\t%d" % (now, role, size), file=self.file, flush=True)
 
     async def watch(self, seconds: float) -> None:
         while True:
@@ -372,6 +375,7 @@ def main() -> None:
     parser.add_argument("--only", choices=["sites", "postgres"], help="one of the two runs")
     parser.add_argument("--every", type=float, help="seconds from one attack to the next, in the mean (10; with --short 2)")
     parser.add_argument("--seed", type=int, help="of the draws; processes have none, so no two runs are alike")
+    parser.add_argument("--samples", metavar="FILE", help="a file for the samples of memory: the second, the process, its bytes")
     options = parser.parse_args()
     tools.set_program(options)
     options.seconds = 30.0 if options.short else 60 * options.minutes
@@ -392,7 +396,7 @@ def tried(options: argparse.Namespace) -> int:
     options.folder.chmod(0o755)
     disk = options.folder / "disk"
     disk.mkdir()
-    memory, faults = Memory(), 0
+    memory, faults = Memory(options.samples), 0
     soak: Soak | None = None
     full = options.only != "postgres" and filled(disk)
     try:

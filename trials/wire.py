@@ -355,6 +355,15 @@ def shown(log: bytes) -> typing.Tuple[int, bytes]:
         return 5, b""
 
 
+def foreign_at(log: bytes) -> int:
+    """The place at which a file is no log."""
+    try:
+        records_of(log)
+    except Foreign as why:
+        return why.place
+    return -1
+
+
 def shown_damage(log: bytes) -> typing.List[str]:
     """The last record of each key that has no End, where it is a damage: what `check` writes, without the places."""
     order = Order()

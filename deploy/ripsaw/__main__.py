@@ -8,10 +8,11 @@ import sys
 import tempfile
 from pathlib import Path
 
-from . import draw, history, record, replay, settings, site
+from . import draw, heap, history, record, replay, settings, site
 
 
 def run_site(options: argparse.Namespace) -> int:
+    heap.give_back()
     read = settings.read(options.folder.resolve())
     asyncio.run(site.Site(read).run())
     return 0

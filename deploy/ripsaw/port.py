@@ -99,19 +99,21 @@ class Session:
     async def end(self, number: int, transaction: Transaction, commit: bool) -> Answer:
         """Until the commitment is complete, or has been decided so long ago that a branch must be out of reach."""
         root, patience = transaction.root, self.site.settings.patience
-        if commit:
-            asking = asyncio.create_task(root.commit(transaction))
-            await asyncio.wait({asking}, timeout=patience)
-            if asking.done():
-                asking.result()
-            await asyncio.wait({transaction.decided}, timeout=patience)
+        try:
+            if commit:
+                asking = asyncio.create_task(root.commit(transaction))
+                await asyncio.wait({asking}, timeout=patience)
+                if asking.done():
+                    asking.result()
+                await asyncio.wait({transaction.decided}, timeout=patience)
+                if not transaction.decided.done():
+                    transaction.why = "not all have voted in time"
             if not transaction.decided.done():
-                transaction.why = "not all have voted in time"
-        if not transaction.decided.done():
-            root.roll(transaction)
-        await transaction.decided
-        await asyncio.wait({transaction.ended}, timeout=patience)
-        self.mine.pop(number, None)
+                root.roll(transaction)
+            await transaction.decided
+            await asyncio.wait({transaction.ended}, timeout=patience)
+        finally:
+            self.mine.pop(number, None)  # (also where it rolled back before)
         committed, report = transaction.ended.result() if transaction.ended.done() else (transaction.decided.result(), wire.Report.NONE)
         self.site.counts["commits" if committed else "rollbacks"] += 1
         return {"outcome": "commit" if committed else "rollback", "complete": transaction.ended.done(), "report": wire.word(report), "why": transaction.why}

@@ -18,13 +18,17 @@ from .wire import frame, octets, text_of_site
 
 PACKAGE = Path(__file__).resolve().parent.parent
 PORTS = 12_000, 32_000
+given: set[int] = set()  # ports that `free_ports` gave before: who got them may not listen yet
 
 
 def free_ports(count: int) -> list[int]:
-    """Ports of loopback that nobody listens on, below those that the system gives to connections."""
+    """Ports of loopback that nobody listens on, below those that the system gives to connections. No two calls give the same."""
     sockets: dict[int, socket.socket] = {}
     while len(sockets) < count:
-        port, it = random.randrange(*PORTS), socket.socket()
+        port = random.randrange(*PORTS)
+        if port in given:
+            continue
+        it = socket.socket()
         try:
             it.bind(("127.0.0.1", port))
             sockets[port] = it
@@ -32,6 +36,7 @@ def free_ports(count: int) -> list[int]:
             it.close()
     for it in sockets.values():
         it.close()
+    given.update(sockets)
     return list(sockets)
 
 
